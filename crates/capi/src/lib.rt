@@ -1,0 +1,90 @@
+// The calls that C and Rust programs link: numbers and slices only. Their header is include/nuqsillay.h.
+ghost use mathlib.Core.Path.{_≡_};
+ghost use Rattle.score_state.specs.Accuracy.{accuracyAnswer};
+ghost use Rattle.inspect.specs.Answers.{targetAnswer};
+ghost use Rattle.capi.specs.Exports.{sixCounts, valueOr, lent, handed, targetQuery};
+use inspect::Accuracy;
+use inspect::Chart;
+use inspect::Query;
+use inspect::TargetAnswer;
+use score_state::AccuracyAnswer;
+use score_state::HitResults;
+
+// `accuracy`: 0 with the accuracy behind value, or 10.
+#[no_mangle]
+pub extern "C" fn nuqsillay_accuracy(
+    n320: u32,
+    n300: u32,
+    n200: u32,
+    n100: u32,
+    n50: u32,
+    misses: u32,
+    classic: bool,
+    value: &mut f64,
+) -> u32
+    ensures { λ r. ⌜ r ≡ accuracyAnswer (sixCounts n320 n300 n200 n100 n50 misses) classic .status ⌝ }
+    ensures { λ _. ⌜ now (value .exit) ≡ valueOr (accuracyAnswer (sixCounts n320 n300 n200 n100 n50 misses) classic .value) (now (value .entry)) ⌝ }
+{
+    let counts = HitResults {
+        n320,
+        n300,
+        n200,
+        n100,
+        n50,
+        misses,
+    };
+    match score_state::accuracy(counts, classic) {
+        AccuracyAnswer::Is(x) => {
+            *value = x;
+            0
+        }
+        AccuracyAnswer::OverCap => 10,
+    }
+}
+
+// `rounded_target`: 0 with total hits, misses, remain and the rounded target in out, or the number that refuses.
+#[no_mangle]
+pub extern "C" fn nuqsillay_target(
+    objects: u32,
+    holds: u32,
+    classic: bool,
+    presence: u8,
+    misses: u32,
+    passed: u32,
+    acc: f64,
+    out: &mut [u32],
+) -> u32
+    ensures { λ r. ⌜ lent r (now (out .exit)) ≡ handed 4 (targetAnswer (targetQuery objects holds classic presence misses passed acc)) (now (out .entry)) ⌝ }
+{
+    if out.len() < 4 {
+        return 5;
+    }
+    let q = Query {
+        chart: Chart {
+            n_objects: objects,
+            n_hold_notes: holds,
+        },
+        method: 0,
+        priority: 0,
+        classic,
+        presence: presence / 32 * 32,
+        n320: 0,
+        n300: 0,
+        n200: 0,
+        n100: 0,
+        n50: 0,
+        misses,
+        passed,
+        acc: Accuracy::Given(acc),
+    };
+    match inspect::rounded_target(q) {
+        TargetAnswer::Is(t) => {
+            out[0] = t.total_hits.0;
+            out[1] = t.misses.0;
+            out[2] = t.remain.0;
+            out[3] = t.target.0;
+            0
+        }
+        TargetAnswer::Refused(n) => n,
+    }
+}

@@ -1,0 +1,14 @@
+use Rattle.inspect.specs.Checks.{over}
+use Rattle.inspect.proofs.over_cap.Statement.{statement}
+use Rattle.inspect.proofs.over_cap.Tie as tie
+
+returns : tie.Need-returns
+unfolding over
+returns c = rw (c .if1 .taken)
+
+returns-2 : tie.Need-returns-2
+unfolding over
+returns-2 c = rw (c .if1 .left)
+
+pub over-cap-spec : {M : Type 1} → statement M
+over-cap-spec = tie.close (tie.spec returns returns-2)

@@ -1,0 +1,21 @@
+use native.Mathlib.Omega.{arith}
+use Rattle.inspect.specs.Inspect.{remain}
+use borrow.Author.Needs.{needs}
+use Rattle.inspect.proofs.remain.Statement.{statement}
+use Rattle.inspect.proofs.remain.Tie as tie
+
+total-hits-requires : tie.Need-total-hits-requires
+total-hits-requires c κs = search needs
+
+misses-requires : tie.Need-misses-requires
+misses-requires c κs = search needs
+
+sub-t4 : tie.Need-sub-t4
+sub-t4 c = search needs
+
+returns : tie.Need-returns
+unfolding remain
+returns c = (rw (c .before .before .before .total-hits .ensures .0, c .before .before .misses .ensures .0), omega arith)
+
+pub remain-spec : {M : Type 1} → statement M
+remain-spec = tie.close (tie.spec total-hits-requires misses-requires sub-t4 returns)

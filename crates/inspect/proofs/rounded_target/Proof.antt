@@ -1,0 +1,66 @@
+use mathlib.Core.Path.{_≡_, sym, _∙_}
+use native.Mathlib.Omega.{arith}
+use Rattle.inspect.specs.Checks.{stopOf, Domain}
+use Rattle.inspect.specs.declared.Query.{Query}
+use Prim.Native.Nat.{ℕ, _≤_}
+use Rattle.inspect.proofs.Checked.{domain, acc-within, target-refused, target-missing, target-worked}
+use borrow.Author.Needs.{needs}
+use Rattle.inspect.proofs.rounded_target.Statement.{statement}
+use Rattle.inspect.proofs.rounded_target.Tie as tie
+
+-- what a query is known to be once `stop_of` has answered 0
+passed : (q : Query) (n : ℕ) → n ≡ stopOf q → n ≤ 0 → Domain q
+passed q n e h = let z : n ≡ 0 = omega arith in domain q (sym e ∙ z)
+
+stop-of-requires : tie.Need-stop-of-requires
+stop-of-requires c κs = search needs
+
+returns : tie.Need-returns
+returns c = target-refused (c .before .before .args .q) (c .before .stop-of .result) (c .before .stop-of .ensures) (c .if1 .taken)
+
+enum-known-a : tie.Need-enum-known-a
+enum-known-a c = search needs
+
+total-hits-requires : tie.Need-total-hits-requires
+total-hits-requires c κs = passed (c .before .before .before .before .before .args .q) (c .before .before .before .before .stop-of .result) (c .before .before .before .before .stop-of .ensures) (c .before .before .before .if1 .left)
+
+misses-requires : tie.Need-misses-requires
+misses-requires c κs = passed (c .before .before .before .before .before .before .args .q) (c .before .before .before .before .before .stop-of .result) (c .before .before .before .before .before .stop-of .ensures) (c .before .before .before .before .if1 .left)
+
+remain-requires : tie.Need-remain-requires
+remain-requires c κs = passed (c .before .before .before .before .before .before .before .args .q) (c .before .before .before .before .before .before .stop-of .result) (c .before .before .before .before .before .before .stop-of .ensures) (c .before .before .before .before .before .if1 .left)
+
+perfect-weight-requires : tie.Need-perfect-weight-requires
+perfect-weight-requires c κs = search needs
+
+target-of-requires : tie.Need-target-of-requires
+target-of-requires c κs =
+    let a = acc-within (c .before .before .before .before .before .before .before .before .before .args .q) (c .before .before .before .before .before .a .given .0 .0) (passed (c .before .before .before .before .before .before .before .before .before .args .q) (c .before .before .before .before .before .before .before .before .stop-of .result) (c .before .before .before .before .before .before .before .before .stop-of .ensures) (c .before .before .before .before .before .before .before .if1 .left)) (c .before .before .before .before .before .a .given .1) in
+    (a .0, (a .1, (omega arith, omega arith)))
+
+enum-told : tie.Need-enum-told
+enum-told c = search needs
+
+returns-2 : tie.Need-returns-2
+returns-2 c =
+    target-worked (c .before .before .before .before .before .before .before .before .before .before .args .q) (c .before .before .before .before .before .before .before .before .before .stop-of .result) (c .before .before .before .before .before .before .a .given .0 .0) (c .before .before .before .before .total-hits .result .0) (c .before .before .before .misses .result .0) (c .before .before .remain .result .0) (c .before .perfect-weight .result) (c .target-of .result .0)
+    (c .before .before .before .before .before .before .before .before .before .stop-of .ensures) (c .before .before .before .before .before .before .before .before .if1 .left) (c .before .before .before .before .before .before .a .given .1) (c .before .before .before .before .total-hits .ensures .0) (c .before .before .before .misses .ensures .0) (c .before .before .remain .ensures .0) (c .before .perfect-weight .ensures .0) (c .target-of .ensures .0)
+
+returns-3 : tie.Need-returns-3
+returns-3 c = target-missing (c .before .before .before .before .args .q) (c .before .before .before .stop-of .result) (c .before .before .before .stop-of .ensures) (c .before .before .if1 .left) (c .enum-told .given .1)
+
+pub rounded-target-spec : {M : Type 1} → statement M
+rounded-target-spec =
+    tie.close
+    (tie.spec
+    stop-of-requires
+    returns
+    enum-known-a
+    total-hits-requires
+    misses-requires
+    remain-requires
+    perfect-weight-requires
+    target-of-requires
+    enum-told
+    returns-2
+    returns-3)

@@ -1,0 +1,5 @@
+pub mod Presence
+pub mod Inspect
+pub mod Target
+pub mod Checks
+pub mod Answers

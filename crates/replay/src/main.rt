@@ -1,0 +1,155 @@
+// Replays a fixed list of the Rust's answers, which `tests/beside/run list` wrote, and prints how many differ.
+// A record has 80 bytes: kind, priority, classic, presence; then u32s: objects, holds, n320, n300, n200, n100, n50, misses, passed;
+// at 40 the accuracy's f64; and from 48 on the expected status and values.
+ghost use Prim.Native.Nat.{_+_, _*_, _≤_, _<_};
+ghost use lib.ListN.{length};
+use inspect::Accuracy;
+use inspect::Chart;
+use inspect::Query;
+use inspect::TargetAnswer;
+use libc::STDIN_FILENO;
+use libc::STDOUT_FILENO;
+use little_endian::f64_of;
+use little_endian::u32_at;
+use little_endian::u64_at;
+use score_state::AccuracyAnswer;
+use score_state::HitResults;
+
+// The six counts of a record.
+fn counts_at(s: &[u8], at: usize) -> HitResults
+    requires { ⌜ at + 80 ≤ length (now s) ⌝ }
+{
+    HitResults {
+        n320: u32_at(s, at + 12),
+        n300: u32_at(s, at + 16),
+        n200: u32_at(s, at + 20),
+        n100: u32_at(s, at + 24),
+        n50: u32_at(s, at + 28),
+        misses: u32_at(s, at + 32),
+    }
+}
+
+// The query of a record; where the acc bit of presence is 0, the accuracy is absent.
+fn query_at(s: &[u8], at: usize) -> Query
+    requires { ⌜ at + 80 ≤ length (now s) ⌝ }
+{
+    let presence = s[at + 3];
+    let x = f64_of(u64_at(s, at + 40));
+    let given = presence / 64 % 2 == 1;
+    let acc = if given {
+        Accuracy::Given(x)
+    } else {
+        Accuracy::Absent
+    };
+    let counts = counts_at(s, at);
+    let chart = Chart {
+        n_objects: u32_at(s, at + 4),
+        n_hold_notes: u32_at(s, at + 8),
+    };
+    Query {
+        chart,
+        method: 0,
+        priority: s[at + 1],
+        classic: s[at + 2] == 1,
+        presence,
+        n320: counts.n320,
+        n300: counts.n300,
+        n200: counts.n200,
+        n100: counts.n100,
+        n50: counts.n50,
+        misses: counts.misses,
+        passed: u32_at(s, at + 36),
+        acc,
+    }
+}
+
+// Whether the expected value k of a record is n.
+fn expects(s: &[u8], at: usize, k: usize, n: u32) -> bool
+    requires { ⌜ at + 80 ≤ length (now s) ⌝ }
+    requires { ⌜ k < 8 ⌝ }
+{
+    u32_at(s, at + 48 + 4 * k) == n
+}
+
+// Kind 0: the six counts are the input, and the value is an f64.
+fn accuracy_agrees(s: &[u8], at: usize) -> bool
+    requires { ⌜ at + 80 ≤ length (now s) ⌝ }
+{
+    let counts = counts_at(s, at);
+    let classic = s[at + 2] == 1;
+    match score_state::accuracy(counts, classic) {
+        AccuracyAnswer::Is(x) => expects(s, at, 0, 0) && x == f64_of(u64_at(s, at + 52)),
+        AccuracyAnswer::OverCap => expects(s, at, 0, 10),
+    }
+}
+
+// Kind 1: total hits, misses and the rounded target.
+fn target_agrees(s: &[u8], at: usize) -> bool
+    requires { ⌜ at + 80 ≤ length (now s) ⌝ }
+{
+    match inspect::rounded_target(query_at(s, at)) {
+        TargetAnswer::Is(t) => {
+            expects(s, at, 0, 0)
+                && expects(s, at, 1, t.total_hits.0)
+                && expects(s, at, 2, t.misses.0)
+                && expects(s, at, 3, t.target.0)
+        }
+        TargetAnswer::Refused(n) => expects(s, at, 0, n),
+    }
+}
+
+// Whether our answer to a record is the expected one; an unknown kind is a difference.
+fn agrees(s: &[u8], at: usize) -> bool
+    requires { ⌜ at + 80 ≤ length (now s) ⌝ }
+{
+    let kind = s[at];
+    match kind {
+        0 => accuracy_agrees(s, at),
+        1 => target_agrees(s, at),
+        _ => false,
+    }
+}
+
+struct Tally {
+    run: u32,
+    differ: u32,
+}
+
+// The records of one kind.
+fn tally_of(s: &[u8], kind: u8) -> Tally {
+    let mut run: u32 = 0;
+    let mut differ: u32 = 0;
+    let mut i: usize = 0;
+    while i < s.len() / 80 {
+        let at = 80 * i;
+        if s[at] == kind {
+            run = std::num::wrapping_add_u32(run, 1);
+            if !agrees(s, at) {
+                differ = std::num::wrapping_add_u32(differ, 1);
+            }
+        }
+        i += 1;
+    }
+    Tally { run, differ }
+}
+
+fn number(n: u32) {
+    io::print_decimal(STDOUT_FILENO, n as u64);
+}
+
+// A line for one kind: its records and how many differ.
+fn report(s: &[u8], kind: u8, name: &[u8]) {
+    let t = tally_of(s, kind);
+    io::write_all(STDOUT_FILENO, name);
+    number(t.run);
+    io::write_all(STDOUT_FILENO, b" records, ");
+    number(t.differ);
+    io::write_all(STDOUT_FILENO, b" differ\n");
+}
+
+fn main() {
+    let mut list = [0u8; 262144];
+    let n = io::read_full(STDIN_FILENO, &mut list);
+    report(&list[..n], 0, b"accuracy: ");
+    report(&list[..n], 1, b"target: ");
+}

@@ -1,0 +1,5 @@
+pub mod Floats
+pub mod Distance
+pub mod Less
+pub mod Apart
+pub mod Whole

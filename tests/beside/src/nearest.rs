@@ -1,0 +1,256 @@
+//! Part nearest: the library's beside a plain walk written from document 01, which an enumeration
+//! of all splits judges on charts of up to 12 hits. With exactly two missing, Closest must lie as
+//! far from the rounded target.
+
+use crate::{
+    closest::SMALL,
+    inputs::{self, Rng, Size},
+    ours::Generator,
+    query::{Answer, CHART, Method, Query},
+    repo,
+    tally::Tally,
+};
+
+/// The most hits for which all splits are looked at.
+const ALL_SPLITS: u32 = 12;
+
+/// The walk on its way.
+struct Walk {
+    /// The missing weights, from the heaviest to the lightest.
+    weights: Vec<i64>,
+    /// The middles' counts as they are set, between two places that only `best` fills.
+    counts: [i64; 5],
+    best: [i64; 5],
+    best_distance: i64,
+    tried: u32,
+}
+
+impl Walk {
+    /// Step 2 from this middle on, with so many hits and so much score left. True if the walk has
+    /// ended.
+    fn middles(&mut self, middle: usize, hits: i64, score: i64) -> bool {
+        let last = self.weights.len() - 1;
+        let (a, b, c) = (self.weights[0], self.weights[middle], self.weights[last]);
+
+        if middle == last {
+            return self.ends(a, c, hits, score);
+        }
+
+        let q = (a - c) / gcd(a - c, b - c);
+
+        for n in 0..=hits.min(q - 1) {
+            self.counts[middle] = n;
+
+            if self.middles(middle + 1, hits - n, score - n * b) {
+                return true;
+            }
+        }
+
+        false
+    }
+
+    /// Steps 3 and 4 for one setting of the middles.
+    fn ends(&mut self, a: i64, c: i64, hits: i64, score: i64) -> bool {
+        let d = score - c * hits;
+        let lo = if d < 0 { 0 } else { hits.min(d / (a - c)) };
+
+        for n in lo..=hits.min(lo + 1) {
+            let distance = (score - a * n - c * (hits - n)).abs();
+            self.tried += 1;
+
+            if distance < self.best_distance {
+                self.best_distance = distance;
+                self.best = self.counts;
+                self.best[0] = n;
+                self.best[self.weights.len() - 1] = hits - n;
+            }
+
+            if distance == 0 {
+                return true;
+            }
+        }
+
+        false
+    }
+}
+
+fn gcd(a: i64, b: i64) -> i64 {
+    if b == 0 { a } else { gcd(b, a % b) }
+}
+
+/// The walk's five counts and tried, for a query that no check stops.
+pub fn walk(q: &Query) -> ([u32; 5], u32) {
+    let mut given = q.given();
+
+    // Step 1.
+    if q.classic && given[0].is_none() && given[1].is_none() {
+        given[1] = Some(0);
+    }
+
+    let mut hits = i64::from(q.remain());
+    let mut score = q.target();
+    let mut weights = Vec::new();
+
+    for (n, weight) in given.into_iter().zip(q.weights().map(i64::from)) {
+        match n.map(i64::from) {
+            Some(n) => {
+                hits -= n;
+                score -= n * weight;
+            }
+            None => weights.push(weight),
+        }
+    }
+
+    let mut walk = Walk {
+        weights,
+        counts: [0; 5],
+        best: [hits, 0, 0, 0, 0],
+        best_distance: i64::MAX,
+        tried: 0,
+    };
+
+    match walk.weights.len() {
+        0 => {}
+        1 => walk.tried = 1,
+        _ => {
+            walk.middles(1, hits, score);
+        }
+    }
+
+    let mut found = walk.best.into_iter().map(|n| n as u32);
+
+    (
+        given.map(|n| n.unwrap_or_else(|| found.next().unwrap())),
+        walk.tried,
+    )
+}
+
+pub fn answer(q: &Query) -> Answer {
+    match q.status(Method::Nearest) {
+        0 => {
+            let ([n320, n300, n200, n100, n50], tried) = walk(q);
+            Answer {
+                status: 0,
+                values: [n320, n300, n200, n100, n50, q.capped_misses(), tried],
+            }
+        }
+        status => Answer::refused(status),
+    }
+}
+
+/// The smallest distance among all splits, if there is one: the rest of the places for so many hits
+/// and points left.
+fn nearest_split(given: &[Option<u32>], weights: &[u32], hits: u32, score: i64) -> Option<u64> {
+    let ([given, rest @ ..], [weight, weights @ ..]) = (given, weights) else {
+        return (hits == 0).then_some(score.unsigned_abs());
+    };
+
+    let counts = match *given {
+        Some(n) => n..=n.min(hits),
+        // The last place can only take all the hits.
+        None if rest.is_empty() => hits..=hits,
+        None => 0..=hits,
+    };
+
+    counts
+        .filter_map(|n| nearest_split(rest, weights, hits - n, score - i64::from(n * weight)))
+        .min()
+}
+
+struct Part {
+    tally: Tally,
+    ours: Generator,
+}
+
+impl Part {
+    fn compare(&mut self, q: &Query) {
+        let answer = answer(q);
+        self.tally.generator(self.ours, Method::Nearest, q, answer);
+
+        if matches!(answer.status, 0 | 14) && q.total_hits() <= ALL_SPLITS {
+            self.judge_by_all_splits(q, &answer);
+        }
+    }
+
+    /// 14 if and only if there is no split; else the answer is a split and none is nearer.
+    fn judge_by_all_splits(&mut self, q: &Query, answer: &Answer) {
+        let [counts @ .., _, _] = &answer.values;
+        let keeps = q
+            .given()
+            .iter()
+            .zip(counts)
+            .all(|(given, n)| given.is_none_or(|g| g == *n));
+        let sums = counts.iter().sum::<u32>() == q.remain();
+        let found = (answer.status == 0 && keeps && sums).then(|| q.distance(counts));
+        let nearest = nearest_split(&q.given(), &q.weights(), q.remain(), q.target());
+
+        self.tally.judge(
+            found == nearest && found.is_some() == (answer.status == 0),
+            || format!("{q}: {answer}, at {found:?}, where the nearest split is at {nearest:?}"),
+        );
+    }
+
+    /// With two missing and both answered, Closest's counts lie as far from the target. Closest is
+    /// the library's if it is linked, else the repository's.
+    fn compare_with_closest(&mut self, q: &Query) {
+        if q.missing() != 2 || q.status(Method::Nearest) != 0 {
+            return;
+        }
+
+        let mut closest = [0; 7];
+        let status = match Generator::linked(Method::Closest) {
+            Some(linked) => linked.call(q, &mut closest),
+            None => {
+                let answer = repo::answer(Method::Closest, q);
+                closest = answer.values;
+                answer.status
+            }
+        };
+        let (nearest, _) = walk(q);
+
+        self.tally.judge(
+            status == 0 && q.distance(&closest[..5]) == q.distance(&nearest),
+            || {
+                format!(
+                    "{q}: Closest {status} {closest:?} and Nearest {nearest:?} differ in distance"
+                )
+            },
+        );
+    }
+}
+
+/// A bound on the hits: most charts are small enough for all splits, one in 512 is at the limit.
+pub fn hits(rng: &mut Rng) -> u32 {
+    match rng.upto(511) {
+        0 => CHART + 1,
+        1 => CHART,
+        2..=9 => 2_000,
+        10..=99 => 100,
+        _ => ALL_SPLITS,
+    }
+}
+
+pub fn run(ours: Generator, rng: &mut Rng) -> bool {
+    let mut tally = Tally::new(Method::Nearest.name());
+    let size = Size::new(1_000_000);
+
+    tally.plays(ours, Method::Nearest, |_, q| answer(q));
+
+    let mut part = Part { tally, ours };
+
+    inputs::exhaustive(SMALL, &mut |q| {
+        if rng.one_in(size.one_in) {
+            part.compare(q);
+            part.compare_with_closest(q);
+        }
+    });
+
+    for turn in 0..size.random {
+        let hits = hits(rng);
+        let q = inputs::query(rng, turn, hits);
+        part.compare(&q);
+        part.compare_with_closest(&q);
+    }
+
+    part.tally.finish()
+}

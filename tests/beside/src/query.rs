@@ -1,0 +1,209 @@
+//! A query, and what document 01 says of it before a method works.
+
+use std::fmt;
+
+/// The most that a given count may be.
+pub const CAP: u32 = 1_000_000;
+/// The most objects, and the most hold notes, of a chart.
+pub const CHART: u32 = 100_000;
+
+/// The presence bits; the five counts have the bits below these.
+pub const MISSES: u8 = 1 << 5;
+pub const ACC: u8 = 1 << 6;
+pub const PASSED: u8 = 1 << 7;
+
+pub const NAMES: [&str; 5] = ["n320", "n300", "n200", "n100", "n50"];
+
+#[derive(Clone, Copy, Debug, PartialEq, Eq)]
+pub enum Method {
+    IgnoreAcc,
+    Fast,
+    Closest,
+    Nearest,
+}
+
+impl Method {
+    pub fn name(self) -> &'static str {
+        match self {
+            Self::IgnoreAcc => "ignore_acc",
+            Self::Fast => "fast",
+            Self::Closest => "closest",
+            Self::Nearest => "nearest",
+        }
+    }
+}
+
+/// What a direct call takes. A missing field's number is there but means nothing.
+#[derive(Clone, Copy, Debug)]
+pub struct Query {
+    pub n_objects: u32,
+    pub n_hold_notes: u32,
+    pub priority: u8,
+    pub classic: bool,
+    pub presence: u8,
+    pub counts: [u32; 5],
+    pub misses: u32,
+    pub passed: u32,
+    pub acc: f64,
+}
+
+/// A status and, where it is 0, the five counts, misses and tried.
+#[derive(Clone, Copy, Debug, PartialEq, Eq)]
+pub struct Answer {
+    pub status: u32,
+    pub values: [u32; 7],
+}
+
+impl Answer {
+    pub fn refused(status: u32) -> Self {
+        Self {
+            status,
+            values: [0; 7],
+        }
+    }
+}
+
+impl Query {
+    pub fn has(&self, bit: u8) -> bool {
+        self.presence & bit != 0
+    }
+
+    /// The five counts, the missing ones as `None`.
+    pub fn given(&self) -> [Option<u32>; 5] {
+        std::array::from_fn(|i| self.has(1 << i).then_some(self.counts[i]))
+    }
+
+    pub fn given_misses(&self) -> Option<u32> {
+        self.has(MISSES).then_some(self.misses)
+    }
+
+    pub fn given_passed(&self) -> Option<u32> {
+        self.has(PASSED).then_some(self.passed)
+    }
+
+    pub fn given_acc(&self) -> Option<f64> {
+        self.has(ACC).then_some(self.acc)
+    }
+
+    pub fn given_sum(&self) -> u32 {
+        self.given().into_iter().flatten().sum()
+    }
+
+    /// How many of the five counts are missing.
+    pub fn missing(&self) -> usize {
+        self.given().into_iter().filter(Option::is_none).count()
+    }
+
+    pub fn weights(&self) -> [u32; 5] {
+        [if self.classic { 60 } else { 61 }, 60, 40, 20, 10]
+    }
+
+    pub fn total_hits(&self) -> u32 {
+        let objects = self.n_objects.min(self.given_passed().unwrap_or(u32::MAX));
+
+        if self.classic {
+            objects
+        } else {
+            objects + self.n_hold_notes
+        }
+    }
+
+    pub fn capped_misses(&self) -> u32 {
+        self.given_misses().unwrap_or(0).min(self.total_hits())
+    }
+
+    pub fn remain(&self) -> u32 {
+        self.total_hits() - self.capped_misses()
+    }
+
+    /// The points of a play without fault, by which acc is multiplied.
+    pub fn full_points(&self) -> u32 {
+        self.weights()[0] * self.total_hits()
+    }
+
+    /// The rounded target.
+    pub fn target(&self) -> i64 {
+        (self.acc * f64::from(self.full_points())).round_ties_even() as i64
+    }
+
+    /// Sets acc to the f64 nearest to this rounded target over the full points.
+    pub fn aim(&mut self, target: i64) {
+        let full = self.full_points().max(1);
+        self.acc = target.clamp(0, full.into()) as f64 / f64::from(full);
+    }
+
+    /// How far these counts lie from the rounded target.
+    pub fn distance(&self, counts: &[u32]) -> u64 {
+        let points = |(&n, w): (&u32, u32)| i64::from(n) * i64::from(w);
+        let points: i64 = counts.iter().zip(self.weights()).map(points).sum();
+
+        points.abs_diff(self.target())
+    }
+
+    pub fn chart_over(&self) -> bool {
+        self.n_objects > CHART || self.n_hold_notes > CHART
+    }
+
+    pub fn acc_outside(&self) -> bool {
+        !(0.0..=1.0).contains(&self.acc)
+    }
+
+    /// The number by which the document stops a direct call of this method, or 0.
+    pub fn status(&self, method: Method) -> u32 {
+        let over = |given: Option<u32>| given.is_some_and(|n| n > CAP);
+
+        if self.chart_over() {
+            return 7;
+        } else if self.priority > 1 {
+            return 8;
+        } else if self.given().into_iter().any(over) || over(self.given_misses()) {
+            return 10;
+        } else if self.has(ACC) && self.acc_outside() {
+            return 11;
+        }
+
+        let (sum, remain, missing) = (self.given_sum(), self.remain(), self.missing());
+
+        match method {
+            Method::Closest if self.has(ACC) && remain > 0 && missing == 2 && sum > remain => 12,
+            Method::Nearest if !self.has(ACC) => 13,
+            Method::Nearest if sum > remain || missing == 0 && sum != remain => 14,
+            _ => 0,
+        }
+    }
+}
+
+impl fmt::Display for Query {
+    fn fmt(&self, f: &mut fmt::Formatter<'_>) -> fmt::Result {
+        write!(
+            f,
+            "objects {} holds {} priority {} classic {} presence {:#04x}",
+            self.n_objects, self.n_hold_notes, self.priority, self.classic, self.presence
+        )?;
+
+        for (name, n) in NAMES.into_iter().zip(self.given()) {
+            if let Some(n) = n {
+                write!(f, " {name} {n}")?;
+            }
+        }
+
+        if let Some(misses) = self.given_misses() {
+            write!(f, " misses {misses}")?;
+        }
+
+        if let Some(passed) = self.given_passed() {
+            write!(f, " passed {passed}")?;
+        }
+
+        write!(f, " acc {:?} ({:#018x})", self.acc, self.acc.to_bits())
+    }
+}
+
+impl fmt::Display for Answer {
+    fn fmt(&self, f: &mut fmt::Formatter<'_>) -> fmt::Result {
+        match self.status {
+            0 => write!(f, "{:?}", self.values),
+            status => write!(f, "refused {status}"),
+        }
+    }
+}
