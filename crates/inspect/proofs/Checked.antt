@@ -87,6 +87,10 @@ domain q e =
       acc = in-range (i .acc) e11;
     }
 
+-- what a query is known to be once `stop_of` has answered n, which is 0
+pub in-domain : (q : Query) (n : ℕ) → n ≡ stopOf q → n ≤ 0 → Domain q
+in-domain q n e h = let z : n ≡ 0 = omega arith in domain q (sym e ∙ z)
+
 -- ---- for the proofs of functions
 -- a check of an optional count, whose bit was read by `is_given`
 pub told : (r b h v : Bool) (n : ℕ) → r ≡ over (given b n) → b ≡ h → r ≡ v → over (given h n) ≡ v

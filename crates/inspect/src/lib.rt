@@ -50,7 +50,8 @@ pub fn is_given(presence: u8, place: u8) -> bool
     presence / place % 2 == 1
 }
 
-fn least(a: u32, b: u32) -> u32
+// `cmp::min`
+pub fn least(a: u32, b: u32) -> u32
     ensures { λ r. ⌜ r ≡ min a b ⌝ }
 {
     if a < b { a } else { b }

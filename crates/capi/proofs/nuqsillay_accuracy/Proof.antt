@@ -1,3 +1,4 @@
+-- `capi::nuqsillay_accuracy` meets its contract. Assumes nothing.
 use Rattle.score_state.specs.Accuracy.{accuracyAnswer}
 use Rattle.capi.specs.Exports.{sixCounts}
 use Rattle.capi.proofs.Handed.{accuracy-is, accuracy-refused}

@@ -1,3 +1,4 @@
+-- `inspect::acc_outside` meets its contract. Assumes nothing.
 use lib.Ieee.{ofBits}
 use Rattle.inspect.specs.Checks.{accOutside}
 use borrow.Author.Needs.{needs}

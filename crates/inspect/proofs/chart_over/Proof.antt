@@ -1,3 +1,4 @@
+-- `inspect::chart_over` meets its contract. Assumes nothing.
 use borrow.Author.Tests.{lt-ltb, le-ltb}
 use Rattle.inspect.specs.Checks.{chartOver}
 use Rattle.inspect.proofs.chart_over.Statement.{statement}

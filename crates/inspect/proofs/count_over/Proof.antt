@@ -1,3 +1,4 @@
+-- `inspect::count_over` meets its contract. Assumes nothing.
 use mathlib.Core.Bool.{Bool, true, false}
 use mathlib.Core.Path.{sym, ap, _∙_}
 use Rattle.inspect.specs.Presence.{has, given}

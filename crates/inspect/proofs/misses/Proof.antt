@@ -1,3 +1,4 @@
+-- `inspect::misses` meets its contract. Assumes nothing.
 use mathlib.Core.Path.{refl}
 use Rattle.inspect.specs.Inspect.{inspectOf}
 use Rattle.inspect.specs.Presence.{has}

@@ -1,3 +1,4 @@
+-- `inspect::over_cap` meets its contract. Assumes nothing.
 use Rattle.inspect.specs.Checks.{over}
 use Rattle.inspect.proofs.over_cap.Statement.{statement}
 use Rattle.inspect.proofs.over_cap.Tie as tie

@@ -1,3 +1,4 @@
+-- `inspect::remain` meets its contract. Assumes nothing.
 use native.Mathlib.Omega.{arith}
 use Rattle.inspect.specs.Inspect.{remain}
 use borrow.Author.Needs.{needs}

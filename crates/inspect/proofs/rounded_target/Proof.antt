@@ -1,16 +1,9 @@
-use mathlib.Core.Path.{_≡_, sym, _∙_}
+-- `inspect::rounded_target` meets its contract. Assumes nothing.
 use native.Mathlib.Omega.{arith}
-use Rattle.inspect.specs.Checks.{stopOf, Domain}
-use Rattle.inspect.specs.declared.Query.{Query}
-use Prim.Native.Nat.{ℕ, _≤_}
-use Rattle.inspect.proofs.Checked.{domain, acc-within, target-refused, target-missing, target-worked}
+use Rattle.inspect.proofs.Checked.{in-domain, acc-within, target-refused, target-missing, target-worked}
 use borrow.Author.Needs.{needs}
 use Rattle.inspect.proofs.rounded_target.Statement.{statement}
 use Rattle.inspect.proofs.rounded_target.Tie as tie
-
--- what a query is known to be once `stop_of` has answered 0
-passed : (q : Query) (n : ℕ) → n ≡ stopOf q → n ≤ 0 → Domain q
-passed q n e h = let z : n ≡ 0 = omega arith in domain q (sym e ∙ z)
 
 stop-of-requires : tie.Need-stop-of-requires
 stop-of-requires c κs = search needs
@@ -22,20 +15,20 @@ enum-known-a : tie.Need-enum-known-a
 enum-known-a c = search needs
 
 total-hits-requires : tie.Need-total-hits-requires
-total-hits-requires c κs = passed (c .before .before .before .before .before .args .q) (c .before .before .before .before .stop-of .result) (c .before .before .before .before .stop-of .ensures) (c .before .before .before .if1 .left)
+total-hits-requires c κs = in-domain (c .before .before .before .before .before .args .q) (c .before .before .before .before .stop-of .result) (c .before .before .before .before .stop-of .ensures) (c .before .before .before .if1 .left)
 
 misses-requires : tie.Need-misses-requires
-misses-requires c κs = passed (c .before .before .before .before .before .before .args .q) (c .before .before .before .before .before .stop-of .result) (c .before .before .before .before .before .stop-of .ensures) (c .before .before .before .before .if1 .left)
+misses-requires c κs = in-domain (c .before .before .before .before .before .before .args .q) (c .before .before .before .before .before .stop-of .result) (c .before .before .before .before .before .stop-of .ensures) (c .before .before .before .before .if1 .left)
 
 remain-requires : tie.Need-remain-requires
-remain-requires c κs = passed (c .before .before .before .before .before .before .before .args .q) (c .before .before .before .before .before .before .stop-of .result) (c .before .before .before .before .before .before .stop-of .ensures) (c .before .before .before .before .before .if1 .left)
+remain-requires c κs = in-domain (c .before .before .before .before .before .before .before .args .q) (c .before .before .before .before .before .before .stop-of .result) (c .before .before .before .before .before .before .stop-of .ensures) (c .before .before .before .before .before .if1 .left)
 
 perfect-weight-requires : tie.Need-perfect-weight-requires
 perfect-weight-requires c κs = search needs
 
 target-of-requires : tie.Need-target-of-requires
 target-of-requires c κs =
-    let a = acc-within (c .before .before .before .before .before .before .before .before .before .args .q) (c .before .before .before .before .before .a .given .0 .0) (passed (c .before .before .before .before .before .before .before .before .before .args .q) (c .before .before .before .before .before .before .before .before .stop-of .result) (c .before .before .before .before .before .before .before .before .stop-of .ensures) (c .before .before .before .before .before .before .before .if1 .left)) (c .before .before .before .before .before .a .given .1) in
+    let a = acc-within (c .before .before .before .before .before .before .before .before .before .args .q) (c .before .before .before .before .before .a .given .0 .0) (in-domain (c .before .before .before .before .before .before .before .before .before .args .q) (c .before .before .before .before .before .before .before .before .stop-of .result) (c .before .before .before .before .before .before .before .before .stop-of .ensures) (c .before .before .before .before .before .before .before .if1 .left)) (c .before .before .before .before .before .a .given .1) in
     (a .0, (a .1, (omega arith, omega arith)))
 
 enum-told : tie.Need-enum-told

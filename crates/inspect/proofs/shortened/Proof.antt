@@ -1,3 +1,4 @@
+-- `inspect::shortened` meets its contract. Assumes nothing.
 use native.Mathlib.Omega.{arith}
 use Rattle.inspect.specs.Inspect.{shortened}
 use borrow.Author.Needs.{needs}

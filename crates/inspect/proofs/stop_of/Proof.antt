@@ -1,3 +1,4 @@
+-- `inspect::stop_of` meets its contract. Assumes nothing.
 use mathlib.Core.Path.{sym, _∙_}
 use Rattle.inspect.specs.Checks.{stopOf}
 use borrow.Author.Needs.{needs}

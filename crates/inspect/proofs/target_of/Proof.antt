@@ -1,3 +1,4 @@
+-- `inspect::target_of` meets its contract. Assumes nothing.
 use native.Mathlib.Omega.{arith}
 use Rattle.inspect.specs.Target.{target}
 use Rattle.inspect.proofs.Checked.{whole-within}

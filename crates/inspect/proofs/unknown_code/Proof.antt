@@ -1,3 +1,4 @@
+-- `inspect::unknown_code` meets its contract. Assumes nothing.
 use borrow.Author.Tests.{lt-ltb, le-ltb}
 use Rattle.inspect.specs.Checks.{unknownCode}
 use Rattle.inspect.proofs.unknown_code.Statement.{statement}

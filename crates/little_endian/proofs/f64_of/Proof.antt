@@ -1,3 +1,4 @@
+-- `little_endian::f64_of` meets its contract. Assumes nothing.
 use lib.Ieee.{div, ofBits}
 use borrow.Author.Needs.{needs}
 use Rattle.little_endian.proofs.Nan.{no-nan, a-nan}

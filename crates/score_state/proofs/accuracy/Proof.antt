@@ -1,3 +1,4 @@
+-- `score_state::accuracy` meets its contract. Assumes nothing.
 use Rattle.score_state.specs.Accuracy.{accuracyAnswer}
 use Rattle.score_state.proofs.Caps.{capped}
 use mathlib.Core.Path.{sym, _∙_}

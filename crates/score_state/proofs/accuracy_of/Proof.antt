@@ -1,3 +1,4 @@
+-- `score_state::accuracy_of` meets its contract. Assumes nothing.
 use Rattle.score_state.proofs.Caps.{accuracy-none, accuracy-some, whole-within}
 use native.Mathlib.Omega.{arith}
 use lib.Ieee.{ofBits}

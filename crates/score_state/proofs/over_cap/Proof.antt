@@ -1,3 +1,4 @@
+-- `score_state::over_cap` meets its contract. Assumes nothing.
 use Rattle.score_state.specs.Accuracy.{overCap}
 use borrow.Author.Tests.{lt-ltb, le-ltb}
 use Rattle.score_state.proofs.over_cap.Statement.{statement}

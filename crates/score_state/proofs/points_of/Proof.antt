@@ -1,3 +1,4 @@
+-- `score_state::points_of` meets its contract. Assumes nothing.
 use native.Mathlib.Omega.{arith}
 use Rattle.score_state.specs.Points.{points}
 use borrow.Author.Needs.{needs}

@@ -1,3 +1,4 @@
+-- `score_state::standard_weights` meets its contract. Assumes nothing.
 use native.Mathlib.Omega.{arith}
 use borrow.Author.Needs.{needs}
 use Rattle.score_state.proofs.standard_weights.Statement.{statement}

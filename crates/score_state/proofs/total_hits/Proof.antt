@@ -1,3 +1,4 @@
+-- `score_state::total_hits` meets its contract. Assumes nothing.
 use native.Mathlib.Omega.{arith}
 use Rattle.score_state.specs.Points.{hits}
 use borrow.Author.Needs.{needs}

@@ -1,0 +1,2 @@
+pub mod IgnoreAcc
+pub mod Code
