@@ -1,3 +1,4 @@
+-- `fast::add_left` meets its contract. Assumes nothing.
 use mathlib.Core.Path.{refl, _∙_}
 use Rattle.inspect.specs.Inspect.{inspectOf}
 use Rattle.fast.specs.Code.{placeOf}

@@ -1,3 +1,4 @@
+-- `fast::all_provided` meets its contract. Assumes nothing.
 use mathlib.Core.Path.{refl}
 use Rattle.fast.specs.Fast.{allProvided}
 use Rattle.fast.proofs.all_provided.Statement.{statement}

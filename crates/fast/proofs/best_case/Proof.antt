@@ -1,3 +1,4 @@
+-- `fast::best_case` meets its contract. Assumes nothing.
 use mathlib.Core.List.{List, [], _∷_}
 use Prim.Native.Nat.{ℕ}
 use Rattle.fast.proofs.Arms.{at-keys, in-span}

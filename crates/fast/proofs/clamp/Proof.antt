@@ -1,3 +1,4 @@
+-- `fast::clamp` meets its contract. Assumes nothing.
 use Rattle.inspect.specs.Presence.{has}
 use Rattle.fast.proofs.Steps.{clamp-some, clamp-none}
 use borrow.Author.Needs.{needs}

@@ -1,3 +1,4 @@
+-- `fast::count_within` meets its contract. Assumes nothing.
 use Rattle.inspect.specs.Presence.{has}
 use Rattle.fast.proofs.Steps.{within-some, within-none}
 use borrow.Author.Needs.{needs}

@@ -1,3 +1,4 @@
+-- `fast::delta_of` meets its contract. Assumes nothing.
 use Prim.Native.Nat.{_*_, _≤_}
 use native.Mathlib.Omega.{arith}
 use Rattle.fast.specs.Code.{prelimOf}

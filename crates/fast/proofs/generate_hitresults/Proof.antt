@@ -1,3 +1,4 @@
+-- `fast::generate_hitresults` meets its contract. Assumes nothing.
 use mathlib.Core.Path.{ap, subst}
 use Rattle.inspect.specs.declared.Accuracy.{Accuracy}
 use Rattle.inspect.specs.Inspect.{inspectOf, accOf}

@@ -1,3 +1,4 @@
+-- `fast::if_none` meets its contract. Assumes nothing.
 use mathlib.Core.Path.{sym, ap, _∙_}
 use Rattle.inspect.specs.Presence.{given}
 use mathlib.Core.Bool.{Bool}

@@ -1,3 +1,4 @@
+-- `fast::one_missing` meets its contract. Assumes nothing.
 use Rattle.inspect.specs.Inspect.{inspectOf}
 use Rattle.fast.specs.Code.{prelimOf}
 use Rattle.fast.proofs.Steps.{one-is}

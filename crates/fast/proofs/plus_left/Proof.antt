@@ -1,3 +1,4 @@
+-- `fast::plus_left` meets its contract. Assumes nothing.
 use mathlib.Core.Path.{sym, ap}
 use Prim.Native.Nat.{ℕ}
 use native.Mathlib.Omega.{arith}

@@ -1,3 +1,4 @@
+-- `fast::prelim_of` meets its contract. Assumes nothing.
 use native.Mathlib.Omega.{arith}
 use Rattle.inspect.specs.Inspect.{inspectOf}
 use Rattle.fast.proofs.Steps.{prelim-is}

@@ -1,3 +1,4 @@
+-- `fast::three_or_fewer` meets its contract. Assumes nothing.
 use native.Mathlib.Omega.{arith}
 use Rattle.inspect.specs.Inspect.{inspectOf}
 use Rattle.inspect.specs.Inspect.{totalHits}

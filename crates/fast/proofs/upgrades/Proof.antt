@@ -1,3 +1,4 @@
+-- `fast::upgrades` meets its contract. Assumes nothing.
 use native.Mathlib.Omega.{arith}
 use lib.Dec.{lit<, lit≤}
 use Rattle.inspect.specs.Inspect.{inspectOf}

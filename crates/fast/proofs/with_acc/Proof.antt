@@ -1,3 +1,4 @@
+-- `fast::with_acc` meets its contract. Assumes nothing.
 use mathlib.Core.Path.{sym, ap, _∙_}
 use Rattle.inspect.specs.Inspect.{inspectOf}
 use Rattle.fast.specs.Code.{prelimOf, fillingOf}

@@ -1,3 +1,4 @@
+-- `fast::worst_case` meets its contract. Assumes nothing.
 use mathlib.Core.List.{[]}
 use Rattle.fast.proofs.Arms.{in-span}
 use native.Mathlib.Omega.{arith}

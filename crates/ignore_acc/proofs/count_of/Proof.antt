@@ -1,3 +1,4 @@
+-- `ignore_acc::count_of` meets its contract. Assumes nothing.
 use mathlib.Core.Path.{sym, ap, _∙_}
 use mathlib.Core.Bool.{Bool}
 use Rattle.inspect.specs.Presence.{given}

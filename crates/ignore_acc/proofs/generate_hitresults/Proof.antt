@@ -1,3 +1,4 @@
+-- `ignore_acc::generate_hitresults` meets its contract. Assumes nothing.
 use mathlib.Core.Path.{ap}
 use Rattle.ignore_acc.specs.Code.{countOf, fiveOf}
 use Rattle.ignore_acc.proofs.Steps.{best-is, worst-is, worst-of}

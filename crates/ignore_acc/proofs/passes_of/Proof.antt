@@ -1,3 +1,4 @@
+-- `ignore_acc::passes_of` meets its contract. Assumes nothing.
 use Rattle.ignore_acc.specs.Code.{countOf, assignedOf, fiveOf}
 use Rattle.ignore_acc.proofs.Steps.{filled-le, passes-is}
 use borrow.Author.Needs.{needs}

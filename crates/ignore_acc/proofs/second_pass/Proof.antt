@@ -1,3 +1,4 @@
+-- `ignore_acc::second_pass` meets its contract. Assumes nothing.
 use Rattle.ignore_acc.specs.Code.{assignedOf, filledOf}
 use Rattle.ignore_acc.proofs.Steps.{second-is}
 use borrow.Author.Needs.{needs}

@@ -1,3 +1,4 @@
+-- `fast::Running::upgrade` meets its contract. Assumes nothing.
 use native.Mathlib.Omega.{arith}
 use native.Mathlib.Nat.{mul-le-mul, le-trans}
 use Rattle.inspect.specs.Presence.{has, given}

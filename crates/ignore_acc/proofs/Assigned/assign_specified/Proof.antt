@@ -1,3 +1,4 @@
+-- `ignore_acc::Assigned::assign_specified` meets its contract. Assumes nothing.
 use mathlib.Core.Path.{ap}
 use Rattle.ignore_acc.specs.Code.{countOf}
 use Rattle.ignore_acc.proofs.Steps.{assigned-some, assigned-none}

@@ -1,3 +1,4 @@
+-- `ignore_acc::Filled::unwrap_or_else` meets its contract. Assumes nothing.
 use mathlib.Core.Path.{ap}
 use Rattle.ignore_acc.specs.Code.{countOf}
 use Rattle.ignore_acc.proofs.Steps.{filled-some, filled-none}

@@ -1,0 +1,9 @@
+pub mod Scan
+pub mod LastThree
+pub mod Capped
+pub mod TwoMissing
+pub mod Bits
+pub mod Steps
+pub mod Search
+pub mod Arms
+pub mod Fills

@@ -1,0 +1,1 @@
+// The definition of Closest and its laws, for crate `closest`: no code stands here.

@@ -1,0 +1,26 @@
+-- `generate::closest_counts` meets its contract. Assumes nothing.
+use mathlib.Core.Path.{sym, ap, _∙_}
+use Rattle.closest.specs.Code as Closest
+use Rattle.generate_laws.specs.Generate.{untried}
+use borrow.Author.Needs.{needs}
+use Rattle.generate.proofs.closest_counts.Statement.{statement}
+use Rattle.generate.proofs.closest_counts.Tie as tie
+
+closest-at-requires : tie.Need-closest-at-requires
+closest-at-requires c κs = search needs
+
+enum-known-counts : tie.Need-enum-known-counts
+enum-known-counts c = search needs
+
+enum-told : tie.Need-enum-told
+enum-told c = search needs
+
+returns : tie.Need-returns
+returns c = ap untried (sym (ap Closest.answerOf (c .before .counts .given .1)) ∙ c .before .before .before .closest-at .ensures)
+
+returns-2 : tie.Need-returns-2
+returns-2 c = ap untried (sym (ap Closest.answerOf (c .enum-told .given .1)) ∙ c .before .before .closest-at .ensures)
+
+pub closest-counts-spec : {M : Type 1} → statement M
+closest-counts-spec =
+    tie.close (tie.spec closest-at-requires enum-known-counts enum-told returns returns-2)

@@ -1,0 +1,4 @@
+pub mod Plays
+pub mod EquallyFar
+pub mod Method3
+pub mod Answered

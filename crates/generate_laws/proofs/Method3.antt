@@ -1,0 +1,266 @@
+-- Demand 3 of one query, proved of what the direct call answers. Assumes nothing.
+use Prim.Native.Nat.{ℕ, zero, suc, _+_, _-_, _≤_}
+use mathlib.Core.Path.{_≡_, refl, sym, ap, _∙_}
+use mathlib.Core.Bool.{Bool, true, false, cond}
+use mathlib.Core.List.{List, [], _∷_, _++_}
+use mathlib.Core.Logic.{_↔_}
+use mathlib.Core.Option.{Option, none, some}
+use native.Mathlib.Nat.{le-trans, le-of-eq}
+use native.Mathlib.Omega.{arith}
+use borrow.Author.Tests.{eq-eqb, ne-eqb, eqb-true, eqb-false}
+use lib.Dec.{eqb, ltb}
+use lib.Ieee.{Float}
+use lib.ListN.{length, take, getD}
+use lib.Seq.{take-append-le}
+use Rattle.score_state.specs.Points.{standard}
+use Rattle.score_state.specs.Given.{missing, givenHits}
+use Rattle.score_state.specs.declared.HitResults.{HitResults}
+use Rattle.inspect.specs.Inspect.{Inspect, inspectOf, givens, misses, remain}
+use Rattle.inspect.specs.Checks.{chartOver, unknownCode, countOver, accOutside, stopOf}
+use Rattle.inspect.specs.Answers.{Answer, worked, refused}
+use Rattle.inspect.specs.declared.Query.{Query}
+use Rattle.inspect.proofs.Checked.{domain, remain-and-misses}
+use Rattle.closest_laws.specs.Closest.{weights, provided, six, byMissing, playOf, optimizeTwoMissing, optimizeThreePlusMissing, clampAndFill, closestAt}
+use Rattle.nearest_laws.specs.Split.{IsSplit}
+use Rattle.nearest_laws.specs.Nearest.{Found, found, nearest, stops, standard-weighting}
+use Rattle.nearest_laws.proofs.Nearest.{nearest-split, nearest-near, nearest-stops, answered}
+use Rattle.nearest_laws.proofs.Tried.{tried-standard}
+use Rattle.generate_laws.specs.Generate.{untried, closestOf, foundOf, nearestOf, byMethod, answerBy, generateAnswer}
+use Rattle.generate_laws.specs.Method3.{fiveOf, targetOf, distanceOf, walkOf, IsNearest}
+use Rattle.generate_laws.proofs.EquallyFar.{equally-far}
+
+-- ---- what the direct call answers once the shared checks pass
+pub passes : (q : Query) → stopOf q ≡ 0 → generateAnswer q ≡ byMethod (q .method) (inspectOf q)
+unfolding generateAnswer answerBy
+passes q e = rw (eq-eqb (stopOf q) 0 e)
+
+pub halts : (q : Query) → (stopOf q ≡ 0 → ⊥) → generateAnswer q ≡ refused (stopOf q)
+unfolding generateAnswer answerBy
+halts q n = rw (ne-eqb (stopOf q) 0 n)
+
+third : (m : ℕ) (i : Inspect) → m ≡ 3 → byMethod m i ≡ nearestOf i (i .acc)
+unfolding byMethod
+third m i e = ap (λ (n : ℕ). byMethod n i) e
+
+second : (m : ℕ) (i : Inspect) → m ≡ 2 → byMethod m i ≡ closestOf i (i .acc)
+unfolding byMethod
+second m i e = ap (λ (n : ℕ). byMethod n i) e
+
+-- five counts, then misses and tried
+seven : (xs : List ℕ) (m t : ℕ) → length xs ≡ 5
+    → (take 5 (xs ++ (m ∷ t ∷ [])) ≡ xs) × (getD (xs ++ (m ∷ t ∷ [])) 5 0 ≡ m) × (getD (xs ++ (m ∷ t ∷ [])) 6 0 ≡ t)
+seven [] m t e = absurd (omega arith)
+seven (a ∷ []) m t e = absurd (omega arith)
+seven (a ∷ (b ∷ [])) m t e = absurd (omega arith)
+seven (a ∷ (b ∷ (c ∷ []))) m t e = absurd (omega arith)
+seven (a ∷ (b ∷ (c ∷ (d ∷ [])))) m t e = absurd (omega arith)
+seven (a ∷ (b ∷ (c ∷ (d ∷ (x ∷ []))))) m t e = (refl, refl, refl)
+seven (a ∷ (b ∷ (c ∷ (d ∷ (x ∷ (y ∷ ys)))))) m t e = absurd (omega arith)
+
+-- ---- method 3 with an accuracy
+module _ (i : Inspect) (acc : Float) where
+  abbrev walked : Option Found
+  walked = nearest (standard (i .classic)) (givens i) (targetOf i acc) (remain i)
+
+  split : (f : Found) → walked ≡ some f → IsSplit (givens i) (remain i) (f .counts)
+  split f e = nearest-split (standard (i .classic)) (givens i) (targetOf i acc) (remain i) f (standard-weighting (i .classic)) refl e
+
+  -- where a split was found, all that demand 3 says of the answer
+  is-nearest : (f : Found) → walked ≡ some f → IsNearest i acc (foundOf i (some f))
+  unfolding foundOf
+  is-nearest f e =
+      let s = split f e in
+      let v = seven (f .counts) (misses i) (f .tried) (s .long) in
+      let w = answered (standard (i .classic)) (givens i) (targetOf i acc) (remain i) f e .1 in
+      record {
+        status = refl;
+        counts = v .0 ∙ ap (λ (g : Found). g .counts) (sym w);
+        total = rw (v .0, v .1) (ap (λ (n : ℕ). n + misses i) (s .sums) ∙ remain-and-misses i);
+        keeps = rw (v .0) (s .keeps);
+        capped = v .1;
+        near = λ xs h. rw (v .0) (nearest-near (standard (i .classic)) (givens i) (targetOf i acc) (remain i) f (standard-weighting (i .classic)) refl e xs h);
+        tried = v .2 ∙ ap (λ (g : Found). g .tried) (sym w);
+        few = le-trans (le-of-eq (v .2)) (tried-standard (i .classic) (givens i) (targetOf i acc) (remain i) f refl e);
+      }
+
+  -- check 14 or a split, and which
+  found-or : (b : Bool) → stops (givens i) (remain i) ≡ b
+      → walked ≡ cond b none (some (walkOf i acc))
+  unfolding nearest
+  found-or b e = ap (λ (x : Bool). cond x none (some (walkOf i acc))) e
+
+  walked-is : stops (givens i) (remain i) ≡ false → walked ≡ some (walkOf i acc)
+  walked-is e = found-or false e
+
+  stopped-is : stops (givens i) (remain i) ≡ true → walked ≡ none
+  stopped-is e = found-or true e
+
+  -- 14 is told exactly where no split exists
+  found-fourteen : (foundOf i walked .status ≡ 14) ↔ ((xs : List ℕ) → IsSplit (givens i) (remain i) xs → ⊥)
+  unfolding foundOf
+  found-fourteen = (λ e. nearest-stops (givens i) (remain i) refl .0 (go (stops (givens i) (remain i)) refl e), λ n. back (nearest-stops (givens i) (remain i) refl .1 n))
+    where
+      go : (b : Bool) → stops (givens i) (remain i) ≡ b → foundOf i walked .status ≡ 14 → stops (givens i) (remain i) ≡ true
+      go true s e = s
+      go false s e = let z : foundOf i (some (walkOf i acc)) .status ≡ 14 = sym (ap (λ (o : Option Found). foundOf i o .status) (walked-is s)) ∙ e in absurd (omega arith)
+
+      back : stops (givens i) (remain i) ≡ true → foundOf i walked .status ≡ 14
+      back s = ap (λ (o : Option Found). foundOf i o .status) (stopped-is s)
+
+-- ---- no other check and no other method tells 14
+stop-not-14 : (q : Query) → stopOf q ≡ 14 → ⊥
+unfolding stopOf
+stop-not-14 q = go (chartOver (q .chart)) (unknownCode (q .method) (q .priority)) (countOver (inspectOf q)) (accOutside ((inspectOf q) .acc))
+  where
+    go : (a b c d : Bool) → _≡_ {A = ℕ} (cond a 7 (cond b 8 (cond c 10 (cond d 11 0)))) 14 → ⊥
+    go true b c d e = omega arith
+    go false true c d e = omega arith
+    go false false true d e = omega arith
+    go false false false true e = omega arith
+    go false false false false e = omega arith
+
+-- Closest's answer with an accuracy: six counts, or 12
+abbrev SixOr12 : Answer → Type 0
+SixOr12 a = ((a .status ≡ 14) → ⊥) × (a .status ≡ 0 → length (a .values) ≡ 6)
+
+six-counts : (r : HitResults) → SixOr12 (worked (six r))
+six-counts r = ((λ e. omega arith), (λ e. refl))
+
+refused-12 : SixOr12 (refused 12)
+refused-12 = ((λ e. omega arith), (λ e. absurd (omega arith)))
+
+either-12 : (b : Bool) (r : HitResults) → SixOr12 (cond b (refused 12) (worked (six r)))
+either-12 true r = refused-12
+either-12 false r = six-counts r
+
+closest-six : (i : Inspect) (acc : Float) → SixOr12 (closestAt i acc)
+unfolding closestAt
+closest-six i acc = go (eqb (remain i) 0) (length (missing (weights (playOf i acc)) (provided (playOf i acc))))
+  where
+    by : (n : ℕ) → SixOr12 (byMissing n (playOf i acc))
+    by zero = unfold byMissing in six-counts (clampAndFill (playOf i acc))
+    by (suc zero) = unfold byMissing in six-counts (clampAndFill (playOf i acc))
+    by (suc (suc zero)) = unfold byMissing in either-12 (ltb (playOf i acc .remain) (givenHits (provided (playOf i acc)))) (optimizeTwoMissing (playOf i acc))
+    by (suc (suc (suc n))) = unfold byMissing in six-counts (optimizeThreePlusMissing (playOf i acc))
+
+    go : (b : Bool) (n : ℕ) → SixOr12 (cond b (worked (0 ∷ 0 ∷ 0 ∷ 0 ∷ 0 ∷ misses i ∷ [])) (byMissing n (playOf i acc)))
+    go true n = ((λ e. omega arith), (λ e. refl))
+    go false n = by n
+
+closest-not-14 : (i : Inspect) (o : Option Float) → closestOf i o .status ≡ 14 → ⊥
+unfolding closestOf
+closest-not-14 i none e = omega arith
+closest-not-14 i (some acc) e = closest-six i acc .0 e
+
+-- ---- Demand 3 of a query
+
+-- "for every method 3 row that no check stops"
+pub method-3
+    : (q : Query) (acc : Float) → q .method ≡ 3 → stopOf q ≡ 0 → (inspectOf q) .acc ≡ some acc
+    → stops (givens (inspectOf q)) (remain (inspectOf q)) ≡ false → IsNearest (inspectOf q) acc (generateAnswer q)
+method-3 q acc m e a s =
+    let i = inspectOf q in
+    let w = walked-is i acc s in
+    let k : generateAnswer q ≡ foundOf i (some (walkOf i acc)) =
+    passes q e ∙ third (q .method) i m ∙ ap (λ (o : Option Float). nearestOf i o) a ∙ unfold nearestOf in ap (foundOf i) w in
+    rw k (is-nearest i acc (walkOf i acc) w)
+
+-- "status 14 exactly when its method is 3, it passes every check before 14, and no split exists for it"
+pub record Fourteen (q : Query) : Type 0 where
+  pub method : q .method ≡ 3
+  pub passes : stopOf q ≡ 0
+  pub acc : Float
+  pub given : (inspectOf q) .acc ≡ some acc
+  pub none-exists : (xs : List ℕ) → IsSplit (givens (inspectOf q)) (remain (inspectOf q)) xs → ⊥
+
+status-14 : (q : Query) → Fourteen q → generateAnswer q .status ≡ 14
+status-14 q f =
+    let i = inspectOf q in
+    ap (λ (a : Answer). a .status)
+    (passes q (f .passes) ∙ third (q .method) i (f .method) ∙ ap (λ (o : Option Float). nearestOf i o) (f .given))
+    ∙ unfold nearestOf in found-fourteen i (f .acc) .1 (f .none-exists)
+
+nearest-14 : (i : Inspect) (o : Option Float) → nearestOf i o .status ≡ 14
+    → (acc : Float) × (o ≡ some acc) × ((xs : List ℕ) → IsSplit (givens i) (remain i) xs → ⊥)
+unfolding nearestOf
+nearest-14 i none e = absurd (omega arith)
+nearest-14 i (some acc) e = (acc, refl, found-fourteen i acc .0 e)
+
+method-14 : (m : ℕ) (i : Inspect) → m ≤ 3 → byMethod m i .status ≡ 14 → (m ≡ 3) × (nearestOf i (i .acc) .status ≡ 14)
+unfolding byMethod
+method-14 zero i l e = absurd (omega arith)
+method-14 (suc zero) i l e = absurd (omega arith)
+method-14 (suc (suc zero)) i l e = absurd (closest-not-14 i (i .acc) e)
+method-14 (suc (suc (suc n))) i l e = (omega arith, e)
+
+only-14 : (q : Query) → generateAnswer q .status ≡ 14 → Fourteen q
+only-14 q e = go (eqb (stopOf q) 0) refl
+  where
+    go : (b : Bool) → eqb (stopOf q) 0 ≡ b → Fourteen q
+    go true b =
+        let p = eqb-true (stopOf q) 0 b in
+        let m = method-14 (q .method) (inspectOf q) (domain q p .method) (ap (λ (a : Answer). a .status) (sym (passes q p)) ∙ e) in
+        let n = nearest-14 (inspectOf q) ((inspectOf q) .acc) (m .1) in
+        record { method = m .0; passes = p; acc = n .0; given = n .1; none-exists = n .2 }
+    go false b = absurd (stop-not-14 q (ap (λ (a : Answer). a .status) (sym (halts q (eqb-false (stopOf q) 0 b))) ∙ e))
+
+pub fourteen : (q : Query) → (generateAnswer q .status ≡ 14) ↔ Fourteen q
+fourteen q = (only-14 q, status-14 q)
+
+-- "Whenever two rows of one such sheet, one of method 2 and one of method 3, are alike in every other field, with exactly two of the
+-- five counts missing, and both have status 0, their counts lie equally far from that target": without the exception that the tender
+-- allows, as both methods aim at the same T.
+untried-five : (a : Answer) → SixOr12 a → untried a .status ≡ 0 → fiveOf (untried a) ≡ fiveOf a
+untried-five a h e =
+    ap (λ (b : Bool). take 5 (cond b (a .values ++ (0 ∷ [])) [])) (eq-eqb (a .status) 0 e)
+    ∙ take-append-le 5 (a .values) (0 ∷ []) (omega (arith, h .1 e))
+
+pub record EquallyFar (i : Inspect) (a b : Answer) : Type 0 where
+  pub acc : Float
+  pub given : i .acc ≡ some acc
+  pub equal : distanceOf i acc (fiveOf a) ≡ distanceOf i acc (fiveOf b)
+
+both-answer
+    : (i : Inspect) (o : Option Float) → o ≡ i .acc → length (missing (standard (i .classic)) (givens i)) ≡ 2
+    → closestOf i o .status ≡ 0 → nearestOf i o .status ≡ 0 → EquallyFar i (closestOf i o) (nearestOf i o)
+unfolding closestOf nearestOf foundOf
+both-answer i none h two c n = absurd (omega arith)
+both-answer i (some acc) h two c n = go (stops (givens i) (remain i)) refl n
+  where
+    go : (b : Bool) → stops (givens i) (remain i) ≡ b → foundOf i (walked i acc) .status ≡ 0
+        → EquallyFar i (untried (closestAt i acc)) (foundOf i (walked i acc))
+    go true s e =
+        let z : foundOf i none .status ≡ 0 = sym (ap (λ (o : Option Found). foundOf i o .status) (stopped-is i acc s)) ∙ e in
+        absurd (omega arith)
+    go false s e =
+        let w = walked-is i acc s in
+        let k : fiveOf (foundOf i (walked i acc)) ≡ walkOf i acc .counts =
+        ap (λ (o : Option Found). fiveOf (foundOf i o)) w ∙ is-nearest i acc (walkOf i acc) w .counts in
+        record {
+          acc = acc;
+          given = sym h;
+          equal = ap (distanceOf i acc) (untried-five (closestAt i acc) (closest-six i acc) c)
+              ∙ equally-far i acc two (walkOf i acc) c w
+              ∙ ap (distanceOf i acc) (sym k);
+        }
+
+-- an answer with status 0 passed the shared checks
+passed-0 : (q : Query) → generateAnswer q .status ≡ 0 → stopOf q ≡ 0
+passed-0 q e = go (eqb (stopOf q) 0) refl
+  where
+    go : (b : Bool) → eqb (stopOf q) 0 ≡ b → stopOf q ≡ 0
+    go true b = eqb-true (stopOf q) 0 b
+    go false b = ap (λ (a : Answer). a .status) (sym (halts q (eqb-false (stopOf q) 0 b))) ∙ e
+
+pub equally
+    : (q r : Query) → q .method ≡ 2 → r .method ≡ 3 → inspectOf q ≡ inspectOf r
+    → length (missing (standard (q .classic)) (givens (inspectOf q))) ≡ 2
+    → generateAnswer q .status ≡ 0 → generateAnswer r .status ≡ 0
+    → EquallyFar (inspectOf q) (generateAnswer q) (generateAnswer r)
+equally q r mq mr same two eq er =
+    let i = inspectOf q in
+    let a : generateAnswer q ≡ closestOf i (i .acc) = passes q (passed-0 q eq) ∙ second (q .method) i mq in
+    let b : generateAnswer r ≡ nearestOf i (i .acc) =
+    passes r (passed-0 r er) ∙ third (r .method) (inspectOf r) mr ∙ ap (λ (j : Inspect). nearestOf j (j .acc)) (sym same) in
+    rw (a, b)
+    (both-answer i (i .acc) refl two (ap (λ (x : Answer). x .status) (sym a) ∙ eq) (ap (λ (x : Answer). x .status) (sym b) ∙ er))

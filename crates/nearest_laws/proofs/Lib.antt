@@ -1,0 +1,11 @@
+pub mod Exchange
+pub mod Near
+pub mod Bound
+pub mod Steps
+pub mod Pad
+pub mod Fill
+pub mod Fold
+pub mod Nearest
+pub mod Tried
+pub mod Places
+pub mod Search
