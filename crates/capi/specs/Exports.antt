@@ -9,7 +9,9 @@ use lib.ListN.{length, drop}
 use lib.Ieee.{Float}
 use Rattle.score_state.specs.declared.HitResults.{HitResults}
 use Rattle.inspect.specs.Answers.{Answer}
-use Rattle.inspect.specs.declared.Accuracy.the-variants.{Given}
+use Rattle.inspect.specs.Presence.{has}
+use Rattle.inspect.specs.declared.Accuracy.{Accuracy}
+use Rattle.inspect.specs.declared.Accuracy.the-variants.{Given, Absent}
 use Rattle.inspect.specs.declared.Query.{Query}
 
 abbrev pub sixCounts : ℕ → ℕ → ℕ → ℕ → ℕ → ℕ → HitResults
@@ -53,4 +55,28 @@ targetQuery objects holds classic presence misses passed acc =
       misses = misses;
       passed = passed;
       acc = Given acc;
+    }
+
+-- an accuracy that its bit of presence says is given
+abbrev pub accBy : Bool → Float → Accuracy
+accBy true acc = Given acc
+accBy false acc = Absent
+
+-- the query of `nuqsillay_generate`
+abbrev pub queryBy : ℕ → ℕ → ℕ → ℕ → Bool → ℕ → HitResults → ℕ → Float → Query
+queryBy objects holds method priority classic presence counts passed acc =
+    record {
+      chart = record { «n_objects» = objects; «n_hold_notes» = holds };
+      method = method;
+      priority = priority;
+      classic = classic;
+      presence = presence;
+      n320 = counts .n320;
+      n300 = counts .n300;
+      n200 = counts .n200;
+      n100 = counts .n100;
+      n50 = counts .n50;
+      misses = counts .misses;
+      passed = passed;
+      acc = accBy (has presence 64) acc;
     }
