@@ -9,9 +9,11 @@ use native.Mathlib.Decide.{decLe}
 use native.Mathlib.Omega.{arith}
 use borrow.Author.Tests.{ltb-false, eq-eqb, ne-eqb}
 use lib.Dec.{ltb, eqb}
-use Rattle.score_state.specs.Points.{hits, points, gap}
+use lib.ListN.{length}
+use Rattle.score_state.specs.Points.{hits, points, gap, countsOf}
+use Rattle.score_state.specs.Given.{or, missing, givenHits, givenPoints, fill}
 use Rattle.closest_laws.specs.Loops.{Kept, each, offer, scan, nearer}
-use Rattle.closest_laws.specs.Closest.{ceiling, splitAt, solveTwo}
+use Rattle.closest_laws.specs.Closest.{Play, provided, weights, ceiling, resultOf, splitAt, solveTwo, solve, optimizeTwoMissing}
 use Rattle.closest_laws.proofs.Scan.{mem-each, each-mem, scan-all, scan-made}
 use Rattle.closest_laws.proofs.LastThree.{nearer-self, nearer-trans, gap-rises}
 
@@ -163,3 +165,84 @@ module _ (w1 w2 T h P : ℕ) where
       let e : points (w1 ∷ w2 ∷ []) (s .0 ∷ (h - s .0) ∷ []) ≡ w1 * s .0 + w2 * (h - s .0) = omega arith in
       subst (λ (n : ℕ). gap (P + n) T ≤ gap (P + (w1 * j + w2 * (h - j))) T)
       (sym (ap (λ (xs : List ℕ). points (w1 ∷ w2 ∷ []) xs) (s .2) ∙ e)) (s .3 j k)
+
+-- ---- of all five counts
+points-nil : (ws : List ℕ) → points ws [] ≡ 0
+unfolding points
+points-nil [] = refl
+points-nil (w ∷ ws) = refl
+
+-- given counts and what fills the missing ones, in points and in hits
+pub fill-points : (ws : List ℕ) (gs : List (Option ℕ)) (xs : List ℕ) → length ws ≡ length gs → points ws (fill gs xs) ≡ givenPoints ws gs + points (missing ws gs) xs
+unfolding points fill givenPoints missing or
+fill-points [] [] xs e = refl
+fill-points [] (g ∷ gs) xs e = absurd (omega arith)
+fill-points (w ∷ ws) [] xs e = absurd (omega arith)
+fill-points (w ∷ ws) (none ∷ gs) [] e = let i = fill-points ws gs [] (omega arith) in omega (arith, points-nil (missing ws gs))
+fill-points (w ∷ ws) (none ∷ gs) (x ∷ xs) e = let i = fill-points ws gs xs (omega arith) in omega arith
+fill-points (w ∷ ws) (some n ∷ gs) xs e = let i = fill-points ws gs xs (omega arith) in omega arith
+
+pub fill-hits : (ws : List ℕ) (gs : List (Option ℕ)) (xs : List ℕ) → length ws ≡ length gs → length xs ≡ length (missing ws gs) → hits (fill gs xs) ≡ givenHits gs + hits xs
+unfolding hits fill givenHits missing or
+fill-hits [] [] [] e f = refl
+fill-hits [] [] (x ∷ xs) e f = absurd (omega arith)
+fill-hits [] (g ∷ gs) xs e f = absurd (omega arith)
+fill-hits (w ∷ ws) [] xs e f = absurd (omega arith)
+fill-hits (w ∷ ws) (none ∷ gs) [] e f = absurd (omega arith)
+fill-hits (w ∷ ws) (none ∷ gs) (x ∷ xs) e f = let i = fill-hits ws gs xs (omega arith) (omega arith) in omega arith
+fill-hits (w ∷ ws) (some n ∷ gs) xs e f = let i = fill-hits ws gs xs (omega arith) f in omega arith
+
+fill-length : (gs : List (Option ℕ)) (xs : List ℕ) → length (fill gs xs) ≡ length gs
+unfolding fill
+fill-length [] xs = refl
+fill-length (none ∷ gs) [] = ap suc (fill-length gs [])
+fill-length (none ∷ gs) (x ∷ xs) = ap suc (fill-length gs xs)
+fill-length (some n ∷ gs) xs = ap suc (fill-length gs xs)
+
+five : (xs : List ℕ) (m : ℕ) → length xs ≡ 5 → countsOf (resultOf xs m) ≡ xs
+unfolding resultOf
+five [] m e = absurd (omega arith)
+five (a ∷ []) m e = absurd (omega arith)
+five (a ∷ (b ∷ [])) m e = absurd (omega arith)
+five (a ∷ (b ∷ (c ∷ []))) m e = absurd (omega arith)
+five (a ∷ (b ∷ (c ∷ (d ∷ [])))) m e = absurd (omega arith)
+five (a ∷ (b ∷ (c ∷ (d ∷ (x ∷ []))))) m e = refl
+five (a ∷ (b ∷ (c ∷ (d ∷ (x ∷ (y ∷ xs)))))) m e = absurd (omega arith)
+
+module _ (p : Play) (w1 w2 : ℕ) (two : missing (weights p) (provided p) ≡ w1 ∷ w2 ∷ []) where
+  abbrev left : ℕ
+  left = p .remain - givenHits (provided p)
+
+  abbrev earned : ℕ
+  earned = givenPoints (weights p) (provided p)
+
+  -- the given counts are kept
+  pub two-filled : countsOf (optimizeTwoMissing p) ≡ fill (provided p) (solveTwo w1 w2 (p .target) left earned)
+  unfolding optimizeTwoMissing solve
+  two-filled =
+      five (fill (provided p) (solve (missing (weights p) (provided p)) (p .target) left earned)) (p .misses) (fill-length (provided p) (solve (missing (weights p) (provided p)) (p .target) left earned))
+      ∙ ap (λ (ws : List ℕ). fill (provided p) (solve ws (p .target) left earned)) two
+
+  -- all five sum to remain
+  pub two-sum : w2 ≤ w1 → givenHits (provided p) ≤ p .remain → hits (countsOf (optimizeTwoMissing p)) ≡ p .remain
+  two-sum l h =
+      let s = solved w1 w2 (p .target) left earned l in
+      let n : length (solveTwo w1 w2 (p .target) left earned) ≡ length (missing (weights p) (provided p)) = ap (λ (xs : List ℕ). length xs) (s .2) ∙ sym (ap (λ (xs : List ℕ). length xs) two) in
+      let e : hits (fill (provided p) (solveTwo w1 w2 (p .target) left earned)) ≡ givenHits (provided p) + hits (solveTwo w1 w2 (p .target) left earned) =
+      fill-hits (weights p) (provided p) (solveTwo w1 w2 (p .target) left earned) refl n in
+      let k : hits (solveTwo w1 w2 (p .target) left earned) ≡ left = two-hits w1 w2 (p .target) left earned l in
+      ap (λ (xs : List ℕ). hits xs) two-filled ∙ e ∙ omega arith
+
+  -- no split of the two missing lies nearer to the target
+  pub two-nearest
+      : w2 ≤ w1 → (j : ℕ) → j ≤ left
+      → gap (points (weights p) (countsOf (optimizeTwoMissing p))) (p .target) ≤ gap (points (weights p) (fill (provided p) (j ∷ (left - j) ∷ []))) (p .target)
+  unfolding points
+  two-nearest l j k =
+      let a : points (weights p) (countsOf (optimizeTwoMissing p)) ≡ earned + points (w1 ∷ w2 ∷ []) (solveTwo w1 w2 (p .target) left earned) =
+      ap (λ (xs : List ℕ). points (weights p) xs) two-filled ∙ fill-points (weights p) (provided p) (solveTwo w1 w2 (p .target) left earned) refl
+      ∙ ap (λ (ws : List ℕ). earned + points ws (solveTwo w1 w2 (p .target) left earned)) two in
+      let b : points (weights p) (fill (provided p) (j ∷ (left - j) ∷ [])) ≡ earned + points (w1 ∷ w2 ∷ []) (j ∷ (left - j) ∷ []) =
+      fill-points (weights p) (provided p) (j ∷ (left - j) ∷ []) refl ∙ ap (λ (ws : List ℕ). earned + points ws (j ∷ (left - j) ∷ [])) two in
+      let c : earned + points (w1 ∷ w2 ∷ []) (j ∷ (left - j) ∷ []) ≡ earned + (w1 * j + w2 * (left - j)) = omega arith in
+      rw (a, b, c) (two-near w1 w2 (p .target) left earned l j k)

@@ -1,4 +1,4 @@
--- closest.rs, `generate_hitresults` for `Closest` where acc is given (lines 13 to 155), with the three functions below it; and
+-- closest.rs, `generate_hitresults` for `Closest` where acc is given (lines 13 to 160), with the four functions below it; and
 -- document 01, closest.rs. A definition stands below those it uses, so `generate_hitresults` comes last here.
 -- Floors, ceilings and roundings of quotients are those of the exact fractions, as document 01 says. `T - (..)` is 0 where the
 -- Rust's difference is negative and `.max(0.0)` or a cast to u32 makes it 0; `saturating_sub` is `-`. `span` is what a loop
@@ -56,7 +56,7 @@ unfoldable pub resultOf : List ℕ → ℕ → HitResults
 resultOf xs misses =
     record { n320 = getD xs 0 0; n300 = getD xs 1 0; n200 = getD xs 2 0; n100 = getD xs 3 0; n50 = getD xs 4 0; misses = misses }
 
--- ---- optimize_two_missing (lines 215 to 344)
+-- ---- optimize_two_missing (lines 218 to 347)
 
 -- h hits go to the weights w1 and w2, beside P points of the given counts: x of them to w1
 unfoldable pub splitAt : ℕ → ℕ → ℕ → ℕ → ℕ → ℕ → Kept (Option ℕ) (List ℕ)
@@ -82,7 +82,7 @@ optimizeTwoMissing p =
     let providedSum = givenPoints (weights p) (provided p) in
     resultOf (fill (provided p) (solve (missing (weights p) (provided p)) (p .target) remainHits providedSum)) (p .misses)
 
--- ---- optimize_last_three (lines 471 to 555): r hits are left, A points are earned, target_score is T - A
+-- ---- optimize_last_three (lines 470 to 553): r hits are left, A points are earned, target_score is T - A
 
 pub record Last : Type 0 where
   pub n200 : ℕ
@@ -119,7 +119,7 @@ optimizeLastThree span none none none r A T =
     let max200 = min r (ceiling (T - A) 40 + 1) in
     scan nearer (each (span min200 max200) (λ n. lastAt r A T n ∷ [])) (record { dist = none; result = record { n200 = 0; n100 = 0; n50 = r } }) .result
 
--- ---- optimize_three_plus_missing (lines 347 to 468)
+-- ---- optimize_three_plus_missing (lines 351 to 467)
 
 -- min_space_needed
 unfoldable pub space : Play → ℕ
@@ -185,7 +185,7 @@ optimizeThreePlusMissing p = search range p
 unfoldable pub cappedSearch : Play → HitResults
 cappedSearch p = search firstTwo p
 
--- ---- generate_hitresults (lines 13 to 155) and optimize_hitresults (lines 169 to 212)
+-- ---- generate_hitresults (lines 13 to 160) and optimize_hitresults (lines 173 to 214)
 
 -- "All provided - just clamp": each given count to what those before it leave
 unfoldable pub clamp : List (Option ℕ) → ℕ → List (Option ℕ)

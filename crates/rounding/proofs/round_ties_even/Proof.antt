@@ -1,4 +1,4 @@
--- `spike::round_ties_even` meets its contract: each way out is a part of `rounded`. Assumes nothing.
+-- `rounding::round_ties_even` meets its contract: each way out is a part of `rounded`. Assumes nothing.
 use borrow.Author.Needs.{needs}
 use native.Mathlib.Omega.{arith}
 use Prim.Native.Nat.{_<_, _^_}
