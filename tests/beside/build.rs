@@ -1,10 +1,7 @@
 //! Shows the compiler the repository's files, unchanged and where they lie, and the linker the
 //! library.
 
-use std::{
-    env, fs,
-    path::{Path, PathBuf},
-};
+use std::{env, fs, path::PathBuf};
 
 /// The modules that the repository's files expect around themselves. The paths get their folder
 /// below. Dead code is allowed because the files offer more than is used here.
@@ -84,14 +81,9 @@ fn main() {
     let out = PathBuf::from(env::var_os("OUT_DIR").unwrap());
     fs::write(out.join("tree.rs"), tree).unwrap();
 
-    if env::vars_os().any(|(name, _)| name.to_string_lossy().starts_with("CARGO_FEATURE_")) {
-        link(&root.join("target/staticlib"));
-    }
-}
-
-fn link(folder: &Path) {
-    println!("cargo::rerun-if-changed={}/libcapi.a", folder.display());
-    println!("cargo::rustc-link-search=native={}", folder.display());
+    let library = root.join("target/staticlib");
+    println!("cargo::rerun-if-changed={}/libcapi.a", library.display());
+    println!("cargo::rustc-link-search=native={}", library.display());
     println!("cargo::rustc-link-lib=static=capi");
     println!("cargo::rustc-link-lib=m");
 }

@@ -15,7 +15,11 @@ use Rattle.score_state.specs.Accuracy as Score
 use Rattle.score_state.specs.declared.AccuracyAnswer.{AccuracyAnswer}
 use Rattle.score_state.specs.declared.AccuracyAnswer.the-variants.{Is, OverCap}
 use Rattle.inspect.specs.Answers.{Answer, refused, worked}
-use Rattle.capi.specs.Exports.{valueOr, Lent, lent, either, handed}
+use Rattle.sheets.specs.Sheets.{WorkedSheet, sheetOf}
+use Rattle.sheets.specs.Worked.{workedOf}
+use Rattle.sheets.specs.declared.SheetAnswer.{SheetAnswer}
+use Rattle.sheets.specs.declared.SheetAnswer.the-variants.{Worked, Refused}
+use Rattle.capi.specs.Exports.{valueOr, lent, either, handed, sheetLent}
 
 pub accuracy-is : (r : AccuracyAnswer) (a : Score.Answer) (x old : Float) → Score.answerOf r ≡ a → r ≡ Is x → (0 ≡ a .status) × (x ≡ valueOr (a .value) old)
 accuracy-is r a x old h k =
@@ -44,3 +48,13 @@ handed-worked n vs a out h k e =
     ap (lent 0) (sets-eq vs out 0 room ∙ ap (λ (m : ℕ). vs ++ drop m out) (zero-add (length vs)))
     ∙ ap (λ (y : Answer). lent (y .status) (y .values ++ drop (length (y .values)) out)) e
     ∙ sym (ap (λ (b : Bool). either b (lent 5 out) (lent (a .status) (a .values ++ drop (length (a .values)) out))) (le-ltb (length out) n h))
+
+-- ---- a sheet
+lent-of : (s out o : List ℕ) (r : SheetAnswer) → workedOf r o ≡ sheetOf s out → lent (workedOf r o .status) (workedOf r o .bytes) ≡ sheetLent s out
+lent-of s out o r e = ap (λ (w : WorkedSheet). lent (w .status) (w .bytes)) e
+
+pub sheet-worked : (s out o : List ℕ) (r : SheetAnswer) (n : ℕ) → workedOf r o ≡ sheetOf s out → r ≡ Worked n → lent 0 o ≡ sheetLent s out
+sheet-worked s out o r n e k = lent-of s out o (Worked n) (ap (λ (x : SheetAnswer). workedOf x o) (sym k) ∙ e)
+
+pub sheet-refused : (s out o : List ℕ) (r : SheetAnswer) (n : ℕ) → workedOf r o ≡ sheetOf s out → r ≡ Refused n → lent n o ≡ sheetLent s out
+sheet-refused s out o r n e k = lent-of s out o (Refused n) (ap (λ (x : SheetAnswer). workedOf x o) (sym k) ∙ e)

@@ -13,6 +13,7 @@ use Rattle.inspect.specs.Presence.{has}
 use Rattle.inspect.specs.declared.Accuracy.{Accuracy}
 use Rattle.inspect.specs.declared.Accuracy.the-variants.{Given, Absent}
 use Rattle.inspect.specs.declared.Query.{Query}
+use Rattle.sheets.specs.Sheets.{sheetOf}
 
 abbrev pub sixCounts : ℕ → ℕ → ℕ → ℕ → ℕ → ℕ → HitResults
 sixCounts n320 n300 n200 n100 n50 misses = record { n320 = n320; n300 = n300; n200 = n200; n100 = n100; n50 = n50; misses = misses }
@@ -80,3 +81,7 @@ queryBy objects holds method priority classic presence counts passed acc =
       passed = passed;
       acc = accBy (has presence 64) acc;
     }
+
+-- a sheet's status, and all bytes of its output
+abbrev pub sheetLent : List ℕ → List ℕ → Lent
+sheetLent s out = lent (sheetOf s out .status) (sheetOf s out .bytes)

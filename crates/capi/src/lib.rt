@@ -7,7 +7,7 @@ ghost use Rattle.score_state.specs.Accuracy.{accuracyAnswer};
 ghost use Rattle.inspect.specs.Answers.{targetAnswer};
 ghost use Rattle.generate_laws.specs.Generate.{generateAnswer};
 ghost use Rattle.generate.specs.Generated.{generatedOf};
-ghost use Rattle.capi.specs.Exports.{sixCounts, valueOr, lent, handed, targetQuery, accBy, queryBy};
+ghost use Rattle.capi.specs.Exports.{sixCounts, valueOr, lent, handed, targetQuery, accBy, queryBy, sheetLent};
 use generate::Generated;
 use inspect::Accuracy;
 use inspect::Chart;
@@ -15,6 +15,7 @@ use inspect::Query;
 use inspect::TargetAnswer;
 use score_state::AccuracyAnswer;
 use score_state::HitResults;
+use sheets::SheetAnswer;
 
 // `accuracy`: 0 with the accuracy behind value, or 10.
 #[no_mangle]
@@ -170,4 +171,15 @@ pub extern "C" fn nuqsillay_generate(
         acc: accuracy,
     };
     hand(generate::generate(q), out)
+}
+
+// Works a sheet: 0 with an answer of 32 bytes for each query in out, or 1 to 5 with out unchanged.
+#[no_mangle]
+pub extern "C" fn nuqsillay_work_sheet(sheet: &[u8], out: &mut [u8]) -> u32
+    ensures { λ r. ⌜ lent r (now (out .exit)) ≡ sheetLent (now (sheet .entry)) (now (out .entry)) ⌝ }
+{
+    match sheets::work_sheet(sheet, out) {
+        SheetAnswer::Worked(_) => 0,
+        SheetAnswer::Refused(n) => n,
+    }
 }

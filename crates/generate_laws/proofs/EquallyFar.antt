@@ -173,3 +173,14 @@ module _ (i : Inspect) (acc : Float) (two : length (missing (standard (i .classi
           ap (λ (a : Answer). gap (points ws (five (a .values))) T) shared-two
           ∙ le-antisymm (t .1 (f .counts) s)
           (nearest-near ws gs T (remain i) f (standard-weighting (i .classic)) refl n (five (byMissing 2 (playOf i acc) .values)) (t .0))
+
+  -- and they sum to the remaining hits
+  pub closest-hits : closestAt i acc .status ≡ 0 → hits (five (closestAt i acc .values)) ≡ remain i
+  unfolding closestAt shared
+  closest-hits e = go (eqb (remain i) 0) refl e
+    where
+      go : (b : Bool) → eqb (remain i) 0 ≡ b → cond b nothing shared .status ≡ 0 → hits (five (cond b nothing shared .values)) ≡ remain i
+      go true b z = unfold hits in sym (eqb-true (remain i) 0 b)
+      go false b z =
+          ap (λ (a : Answer). hits (five (a .values))) shared-two
+          ∙ two-missing (sym (ap (λ (a : Answer). a .status) shared-two) ∙ z) .0 .sums

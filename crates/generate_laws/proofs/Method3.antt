@@ -1,6 +1,6 @@
 -- Demand 3 of one query, proved of what the direct call answers. Assumes nothing.
 use Prim.Native.Nat.{ℕ, zero, suc, _+_, _-_, _≤_}
-use mathlib.Core.Path.{_≡_, refl, sym, ap, _∙_}
+use mathlib.Core.Path.{_≡_, refl, sym, ap, _∙_, subst}
 use mathlib.Core.Bool.{Bool, true, false, cond}
 use mathlib.Core.List.{List, [], _∷_, _++_}
 use mathlib.Core.Logic.{_↔_}
@@ -10,16 +10,16 @@ use native.Mathlib.Omega.{arith}
 use borrow.Author.Tests.{eq-eqb, ne-eqb, eqb-true, eqb-false}
 use lib.Dec.{eqb, ltb}
 use lib.Ieee.{Float}
-use lib.ListN.{length, take, getD}
+use lib.ListN.{length, take, getD, length-append}
 use lib.Seq.{take-append-le}
-use Rattle.score_state.specs.Points.{standard}
+use Rattle.score_state.specs.Points.{hits, standard}
 use Rattle.score_state.specs.Given.{missing, givenHits}
 use Rattle.score_state.specs.declared.HitResults.{HitResults}
-use Rattle.inspect.specs.Inspect.{Inspect, inspectOf, givens, misses, remain}
+use Rattle.inspect.specs.Inspect.{Inspect, inspectOf, givens, totalHits, misses, remain}
 use Rattle.inspect.specs.Checks.{chartOver, unknownCode, countOver, accOutside, stopOf}
 use Rattle.inspect.specs.Answers.{Answer, worked, refused}
 use Rattle.inspect.specs.declared.Query.{Query}
-use Rattle.inspect.proofs.Checked.{domain, remain-and-misses}
+use Rattle.inspect.proofs.Checked.{domain, remain-and-misses, total-within}
 use Rattle.closest_laws.specs.Closest.{weights, provided, six, byMissing, playOf, optimizeTwoMissing, optimizeThreePlusMissing, clampAndFill, closestAt}
 use Rattle.nearest_laws.specs.Split.{IsSplit}
 use Rattle.nearest_laws.specs.Nearest.{Found, found, nearest, stops, standard-weighting}
@@ -27,7 +27,7 @@ use Rattle.nearest_laws.proofs.Nearest.{nearest-split, nearest-near, nearest-st
 use Rattle.nearest_laws.proofs.Tried.{tried-standard}
 use Rattle.generate_laws.specs.Generate.{untried, closestOf, foundOf, nearestOf, byMethod, answerBy, generateAnswer}
 use Rattle.generate_laws.specs.Method3.{fiveOf, targetOf, distanceOf, walkOf, IsNearest}
-use Rattle.generate_laws.proofs.EquallyFar.{equally-far}
+use Rattle.generate_laws.proofs.EquallyFar.{equally-far, closest-hits}
 
 -- ---- what the direct call answers once the shared checks pass
 pub passes : (q : Query) → stopOf q ≡ 0 → generateAnswer q ≡ byMethod (q .method) (inspectOf q)
@@ -107,27 +107,27 @@ module _ (i : Inspect) (acc : Float) where
       back : stops (givens i) (remain i) ≡ true → foundOf i walked .status ≡ 14
       back s = ap (λ (o : Option Found). foundOf i o .status) (stopped-is s)
 
--- ---- no other check and no other method tells 14
-stop-not-14 : (q : Query) → stopOf q ≡ 14 → ⊥
+-- ---- no other check and no other method tells 14, and no number is larger
+stop-small : (q : Query) → stopOf q ≤ 11
 unfolding stopOf
-stop-not-14 q = go (chartOver (q .chart)) (unknownCode (q .method) (q .priority)) (countOver (inspectOf q)) (accOutside ((inspectOf q) .acc))
+stop-small q = go (chartOver (q .chart)) (unknownCode (q .method) (q .priority)) (countOver (inspectOf q)) (accOutside ((inspectOf q) .acc))
   where
-    go : (a b c d : Bool) → _≡_ {A = ℕ} (cond a 7 (cond b 8 (cond c 10 (cond d 11 0)))) 14 → ⊥
-    go true b c d e = omega arith
-    go false true c d e = omega arith
-    go false false true d e = omega arith
-    go false false false true e = omega arith
-    go false false false false e = omega arith
+    go : (a b c d : Bool) → cond a 7 (cond b 8 (cond c 10 (cond d 11 0))) ≤ 11
+    go true b c d = omega arith
+    go false true c d = omega arith
+    go false false true d = omega arith
+    go false false false true = omega arith
+    go false false false false = omega arith
 
 -- Closest's answer with an accuracy: six counts, or 12
 abbrev SixOr12 : Answer → Type 0
-SixOr12 a = ((a .status ≡ 14) → ⊥) × (a .status ≡ 0 → length (a .values) ≡ 6)
+SixOr12 a = (a .status ≤ 12) × (a .status ≡ 0 → length (a .values) ≡ 6)
 
 six-counts : (r : HitResults) → SixOr12 (worked (six r))
-six-counts r = ((λ e. omega arith), (λ e. refl))
+six-counts r = (omega arith, (λ e. refl))
 
 refused-12 : SixOr12 (refused 12)
-refused-12 = ((λ e. omega arith), (λ e. absurd (omega arith)))
+refused-12 = (omega arith, (λ e. absurd (omega arith)))
 
 either-12 : (b : Bool) (r : HitResults) → SixOr12 (cond b (refused 12) (worked (six r)))
 either-12 true r = refused-12
@@ -144,26 +144,65 @@ closest-six i acc = go (eqb (remain i) 0) (length (missing (weights (playOf i ac
     by (suc (suc (suc n))) = unfold byMissing in six-counts (optimizeThreePlusMissing (playOf i acc))
 
     go : (b : Bool) (n : ℕ) → SixOr12 (cond b (worked (0 ∷ 0 ∷ 0 ∷ 0 ∷ 0 ∷ misses i ∷ [])) (byMissing n (playOf i acc)))
-    go true n = ((λ e. omega arith), (λ e. refl))
+    go true n = (omega arith, (λ e. refl))
     go false n = by n
 
-closest-not-14 : (i : Inspect) (o : Option Float) → closestOf i o .status ≡ 14 → ⊥
+closest-small : (i : Inspect) (o : Option Float) → closestOf i o .status ≤ 12
 unfolding closestOf
-closest-not-14 i none e = omega arith
-closest-not-14 i (some acc) e = closest-six i acc .0 e
+closest-small i none = omega arith
+closest-small i (some acc) = closest-six i acc .0
+
+found-status : (i : Inspect) (o : Option Found) → foundOf i o .status ≤ 14
+unfolding foundOf
+found-status i none = omega arith
+found-status i (some f) = omega arith
+
+nearest-status : (i : Inspect) (o : Option Float) → nearestOf i o .status ≤ 14
+unfolding nearestOf
+nearest-status i none = omega arith
+nearest-status i (some acc) = found-status i (walked i acc)
+
+method-status : (m : ℕ) (i : Inspect) → byMethod m i .status ≤ 14
+unfolding byMethod
+method-status zero i = omega arith
+method-status (suc zero) i = omega arith
+method-status (suc (suc zero)) i = omega (arith, closest-small i (i .acc))
+method-status (suc (suc (suc n))) i = nearest-status i (i .acc)
+
+pub status-small : (q : Query) → generateAnswer q .status ≤ 14
+status-small q = go (eqb (stopOf q) 0) refl
+  where
+    go : (b : Bool) → eqb (stopOf q) 0 ≡ b → generateAnswer q .status ≤ 14
+    go true b = rw (passes q (eqb-true (stopOf q) 0 b)) (method-status (q .method) (inspectOf q))
+    go false b = rw (halts q (eqb-false (stopOf q) 0 b)) (omega (arith, stop-small q))
+
+-- an answer of five counts at least, which are no more than a chart's hits
+pub record Small (a : Answer) : Type 0 where
+  pub long : 5 ≤ length (a .values)
+  pub few : hits (fiveOf a) ≤ 200_000
+
+-- of a walk's answer
+pub found-small : (i : Inspect) (acc : Float) (f : Found) → walked i acc ≡ some f → totalHits i ≤ 200_000 → Small (foundOf i (some f))
+unfolding foundOf
+found-small i acc f e t =
+    let n = is-nearest i acc f e in
+    let l : length (f .counts ++ (misses i ∷ f .tried ∷ [])) ≡ length (f .counts) + 2 = length-append (f .counts) (misses i ∷ f .tried ∷ []) in
+    record { long = omega (arith, split i acc f e .long); few = omega (arith, n .total) }
 
 -- ---- Demand 3 of a query
 
 -- "for every method 3 row that no check stops"
-pub method-3
-    : (q : Query) (acc : Float) → q .method ≡ 3 → stopOf q ≡ 0 → (inspectOf q) .acc ≡ some acc
-    → stops (givens (inspectOf q)) (remain (inspectOf q)) ≡ false → IsNearest (inspectOf q) acc (generateAnswer q)
-method-3 q acc m e a s =
-    let i = inspectOf q in
-    let w = walked-is i acc s in
-    let k : generateAnswer q ≡ foundOf i (some (walkOf i acc)) =
-    passes q e ∙ third (q .method) i m ∙ ap (λ (o : Option Float). nearestOf i o) a ∙ unfold nearestOf in ap (foundOf i) w in
-    rw k (is-nearest i acc (walkOf i acc) w)
+module _ (q : Query) (acc : Float) (m : q .method ≡ 3) (e : stopOf q ≡ 0) (a : (inspectOf q) .acc ≡ some acc) (s : stops (givens (inspectOf q)) (remain (inspectOf q)) ≡ false) where
+  answer-3 : generateAnswer q ≡ foundOf (inspectOf q) (some (walkOf (inspectOf q) acc))
+  answer-3 =
+      passes q e ∙ third (q .method) (inspectOf q) m ∙ ap (λ (o : Option Float). nearestOf (inspectOf q) o) a
+      ∙ unfold nearestOf in ap (foundOf (inspectOf q)) (walked-is (inspectOf q) acc s)
+
+  pub method-3 : IsNearest (inspectOf q) acc (generateAnswer q)
+  method-3 = rw answer-3 (is-nearest (inspectOf q) acc (walkOf (inspectOf q) acc) (walked-is (inspectOf q) acc s))
+
+  pub method-3-small : Small (generateAnswer q)
+  method-3-small = rw answer-3 (found-small (inspectOf q) acc (walkOf (inspectOf q) acc) (walked-is (inspectOf q) acc s) (total-within q (domain q e)))
 
 -- "status 14 exactly when its method is 3, it passes every check before 14, and no split exists for it"
 pub record Fourteen (q : Query) : Type 0 where
@@ -190,7 +229,7 @@ method-14 : (m : ℕ) (i : Inspect) → m ≤ 3 → byMethod m i .status ≡ 14 
 unfolding byMethod
 method-14 zero i l e = absurd (omega arith)
 method-14 (suc zero) i l e = absurd (omega arith)
-method-14 (suc (suc zero)) i l e = absurd (closest-not-14 i (i .acc) e)
+method-14 (suc (suc zero)) i l e = absurd (omega (arith, closest-small i (i .acc)))
 method-14 (suc (suc (suc n))) i l e = (omega arith, e)
 
 only-14 : (q : Query) → generateAnswer q .status ≡ 14 → Fourteen q
@@ -202,7 +241,9 @@ only-14 q e = go (eqb (stopOf q) 0) refl
         let m = method-14 (q .method) (inspectOf q) (domain q p .method) (ap (λ (a : Answer). a .status) (sym (passes q p)) ∙ e) in
         let n = nearest-14 (inspectOf q) ((inspectOf q) .acc) (m .1) in
         record { method = m .0; passes = p; acc = n .0; given = n .1; none-exists = n .2 }
-    go false b = absurd (stop-not-14 q (ap (λ (a : Answer). a .status) (sym (halts q (eqb-false (stopOf q) 0 b))) ∙ e))
+    go false b =
+        let z : stopOf q ≡ 14 = ap (λ (a : Answer). a .status) (sym (halts q (eqb-false (stopOf q) 0 b))) ∙ e in
+        absurd (omega (arith, stop-small q))
 
 pub fourteen : (q : Query) → (generateAnswer q .status ≡ 14) ↔ Fourteen q
 fourteen q = (only-14 q, status-14 q)
@@ -219,13 +260,29 @@ pub record EquallyFar (i : Inspect) (a b : Answer) : Type 0 where
   pub acc : Float
   pub given : i .acc ≡ some acc
   pub equal : distanceOf i acc (fiveOf a) ≡ distanceOf i acc (fiveOf b)
+  pub first : Small a
+  pub second : Small b
+
+-- of Closest's with two missing
+untried-small
+    : (i : Inspect) (acc : Float) → length (missing (standard (i .classic)) (givens i)) ≡ 2 → closestAt i acc .status ≡ 0 → totalHits i ≤ 200_000
+    → Small (untried (closestAt i acc))
+untried-small i acc two c t =
+    let h = closest-six i acc in
+    let l : length (closestAt i acc .values ++ (0 ∷ [])) ≡ length (closestAt i acc .values) + 1 = length-append (closestAt i acc .values) (0 ∷ []) in
+    let k : length (untried (closestAt i acc) .values) ≡ length (closestAt i acc .values ++ (0 ∷ [])) =
+    ap (λ (b : Bool). length (cond b (closestAt i acc .values ++ (0 ∷ [])) [])) (eq-eqb (closestAt i acc .status) 0 c) in
+    record {
+      long = omega (arith, h .1 c);
+      few = rw (untried-five (closestAt i acc) h c) (omega (arith, closest-hits i acc two c, remain-and-misses i));
+    }
 
 both-answer
     : (i : Inspect) (o : Option Float) → o ≡ i .acc → length (missing (standard (i .classic)) (givens i)) ≡ 2
-    → closestOf i o .status ≡ 0 → nearestOf i o .status ≡ 0 → EquallyFar i (closestOf i o) (nearestOf i o)
+    → closestOf i o .status ≡ 0 → nearestOf i o .status ≡ 0 → totalHits i ≤ 200_000 → EquallyFar i (closestOf i o) (nearestOf i o)
 unfolding closestOf nearestOf foundOf
-both-answer i none h two c n = absurd (omega arith)
-both-answer i (some acc) h two c n = go (stops (givens i) (remain i)) refl n
+both-answer i none h two c n t = absurd (omega arith)
+both-answer i (some acc) h two c n t = go (stops (givens i) (remain i)) refl n
   where
     go : (b : Bool) → stops (givens i) (remain i) ≡ b → foundOf i (walked i acc) .status ≡ 0
         → EquallyFar i (untried (closestAt i acc)) (foundOf i (walked i acc))
@@ -242,6 +299,8 @@ both-answer i (some acc) h two c n = go (stops (givens i) (remain i)) refl n
           equal = ap (distanceOf i acc) (untried-five (closestAt i acc) (closest-six i acc) c)
               ∙ equally-far i acc two (walkOf i acc) c w
               ∙ ap (distanceOf i acc) (sym k);
+          first = untried-small i acc two c t;
+          second = subst (λ (o : Option Found). Small (foundOf i o)) (sym w) (found-small i acc (walkOf i acc) w t);
         }
 
 -- an answer with status 0 passed the shared checks
@@ -263,4 +322,5 @@ equally q r mq mr same two eq er =
     let b : generateAnswer r ≡ nearestOf i (i .acc) =
     passes r (passed-0 r er) ∙ third (r .method) (inspectOf r) mr ∙ ap (λ (j : Inspect). nearestOf j (j .acc)) (sym same) in
     rw (a, b)
-    (both-answer i (i .acc) refl two (ap (λ (x : Answer). x .status) (sym a) ∙ eq) (ap (λ (x : Answer). x .status) (sym b) ∙ er))
+    (both-answer i (i .acc) refl two (ap (λ (x : Answer). x .status) (sym a) ∙ eq) (ap (λ (x : Answer). x .status) (sym b) ∙ er)
+    (total-within q (domain q (passed-0 q eq))))

@@ -4,7 +4,7 @@ use mathlib.Core.Path.{_≡_, refl, sym, ap, _∙_, subst}
 use mathlib.Core.Bool.{Bool, true, false, not, cond, _&&_, _||_, true≢false}
 use mathlib.Core.Option.{Option, none, some}
 use Prim.Native.Nat.{ℕ, _+_, _-_, _*_, _≤_, _<_, min}
-use native.Mathlib.Nat.{mul-le-mul}
+use native.Mathlib.Nat.{mul-le-mul, le-refl, le-trans}
 use native.Mathlib.Omega.{arith}
 use borrow.Author.Tests.{ltb-false, eq-eqb, ne-eqb}
 use lib.Dec.{T, ltb}
@@ -16,7 +16,7 @@ use Rattle.score_state.proofs.Caps.{or-left, or-right}
 use Rattle.inspect.specs.Presence.{given}
 use mathlib.Core.List.{[], _∷_}
 use Rattle.score_state.specs.Points.{perfectWeight}
-use Rattle.inspect.specs.Inspect.{Inspect, inspectOf, accOf, totalHits, cappedMisses, misses, remain}
+use Rattle.inspect.specs.Inspect.{Inspect, inspectOf, accOf, shortened, totalHits, cappedMisses, misses, remain}
 use Rattle.inspect.specs.Target.{target}
 use Rattle.inspect.specs.Answers.{refused, worked, unless, targetValues, targetAnswer}
 use Rattle.inspect.specs.declared.Accuracy.{Accuracy}
@@ -108,6 +108,19 @@ misses-le i = go (i .misses)
 pub remain-and-misses : (i : Inspect) → remain i + misses i ≡ totalHits i
 unfolding remain
 remain-and-misses i = omega (arith, misses-le i)
+
+-- at most 100,000 objects and 100,000 hold notes
+pub total-within : (q : Query) → Domain q → totalHits (inspectOf q) ≤ 200_000
+unfolding totalHits
+total-within q d = le-trans (either (q .classic) (shortened ((inspectOf q) .passed) (q .chart .«n_objects»)) (q .chart .«n_hold_notes»)) (omega (arith, fewer ((inspectOf q) .passed) (q .chart .«n_objects»), d .objects, d .holds))
+  where
+    fewer : (p : Option ℕ) (n : ℕ) → shortened p n ≤ n
+    fewer none n = unfold shortened in le-refl n
+    fewer (some p) n = unfold shortened in omega arith
+
+    either : (b : Bool) (m h : ℕ) → cond b m (m + h) ≤ m + h
+    either true m h = omega arith
+    either false m h = le-refl (m + h)
 
 pub whole-within : (w n : ℕ) → w ≤ 100 → n ≤ 200_000 → w * n ≤ 20_000_000
 whole-within w n h k = mul-le-mul h k

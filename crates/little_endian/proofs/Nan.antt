@@ -1,12 +1,12 @@
 -- A bit pattern is a NaN's where what is left of the sign lies above that of an infinity.
 -- Assumes nothing.
-use mathlib.Core.Path.{_≡_, refl}
+use mathlib.Core.Path.{_≡_}
 use mathlib.Core.Bool.{Bool, true, false, not, _&&_}
-use Prim.Native.Nat.{ℕ, _+_, _/_, _%_, _≤_, _<_}
+use Prim.Native.Nat.{ℕ, _/_, _%_, _≤_, _<_}
 use native.Mathlib.Omega.{arith}
-use lib.Dec.{T, eqb, eqb→eq, eqb-refl, T-not}
+use lib.Dec.{T, eqb, eqb→eq}
 use borrow.Author.Tests.{eq-eqb, ne-eqb}
-use lib.Ieee.{Float, nan, binary64, ofBits, ofFields, nanBits, top, hid, ones}
+use lib.Ieee.{nan, binary64, ofBits, ofFields, nanBits}
 
 not-both : (p q : Bool) → (T p → q ≡ false) → T (not (p && q))
 not-both true q h = rw (h tt) tt

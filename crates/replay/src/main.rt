@@ -1,8 +1,10 @@
-// Replays a fixed list of the Rust's answers, which `tests/beside/run list` wrote, and prints how many differ.
+// Replays a fixed list of the Rust's answers (Nearest's are a plain walk's), which `tests/beside/run list` wrote, and prints how many
+// differ.
 // A record has 80 bytes: kind, priority, classic, presence; then u32s: objects, holds, n320, n300, n200, n100, n50, misses, passed;
 // at 40 the accuracy's f64; and from 48 on the expected status and values.
 ghost use Prim.Native.Nat.{_+_, _*_, _≤_, _<_};
 ghost use lib.ListN.{length};
+use generate::Generated;
 use inspect::Accuracy;
 use inspect::Chart;
 use inspect::Query;
@@ -30,7 +32,7 @@ fn counts_at(s: &[u8], at: usize) -> HitResults
 }
 
 // The query of a record; where the acc bit of presence is 0, the accuracy is absent.
-fn query_at(s: &[u8], at: usize) -> Query
+fn query_at(s: &[u8], at: usize, method: u8) -> Query
     requires { ⌜ at + 80 ≤ length (now s) ⌝ }
 {
     let presence = s[at + 3];
@@ -48,7 +50,7 @@ fn query_at(s: &[u8], at: usize) -> Query
     };
     Query {
         chart,
-        method: 0,
+        method,
         priority: s[at + 1],
         classic: s[at + 2] == 1,
         presence,
@@ -87,7 +89,7 @@ fn accuracy_agrees(s: &[u8], at: usize) -> bool
 fn target_agrees(s: &[u8], at: usize) -> bool
     requires { ⌜ at + 80 ≤ length (now s) ⌝ }
 {
-    match inspect::rounded_target(query_at(s, at)) {
+    match inspect::rounded_target(query_at(s, at, 0)) {
         TargetAnswer::Is(t) => {
             expects(s, at, 0, 0)
                 && expects(s, at, 1, t.total_hits.0)
@@ -95,6 +97,31 @@ fn target_agrees(s: &[u8], at: usize) -> bool
                 && expects(s, at, 3, t.target.0)
         }
         TargetAnswer::Refused(n) => expects(s, at, 0, n),
+    }
+}
+
+// Whether the expected values are these counts and this tried.
+fn counts_agree(s: &[u8], at: usize, counts: HitResults, tried: u32) -> bool
+    requires { ⌜ at + 80 ≤ length (now s) ⌝ }
+{
+    expects(s, at, 1, counts.n320)
+        && expects(s, at, 2, counts.n300)
+        && expects(s, at, 3, counts.n200)
+        && expects(s, at, 4, counts.n100)
+        && expects(s, at, 5, counts.n50)
+        && expects(s, at, 6, counts.misses)
+        && expects(s, at, 7, tried)
+}
+
+// Kinds 2 to 5: the direct call, methods 0 to 3.
+fn generate_agrees(s: &[u8], at: usize, method: u8) -> bool
+    requires { ⌜ at + 80 ≤ length (now s) ⌝ }
+{
+    match generate::generate(query_at(s, at, method)) {
+        Generated::Counts(counts, tried) => {
+            expects(s, at, 0, 0) && counts_agree(s, at, counts, tried)
+        }
+        Generated::Refused(n) => expects(s, at, 0, n),
     }
 }
 
@@ -106,6 +133,10 @@ fn agrees(s: &[u8], at: usize) -> bool
     match kind {
         0 => accuracy_agrees(s, at),
         1 => target_agrees(s, at),
+        2 => generate_agrees(s, at, 0),
+        3 => generate_agrees(s, at, 1),
+        4 => generate_agrees(s, at, 2),
+        5 => generate_agrees(s, at, 3),
         _ => false,
     }
 }
@@ -152,4 +183,8 @@ fn main() {
     let n = io::read_full(STDIN_FILENO, &mut list);
     report(&list[..n], 0, b"accuracy: ");
     report(&list[..n], 1, b"target: ");
+    report(&list[..n], 2, b"ignore_acc: ");
+    report(&list[..n], 3, b"fast: ");
+    report(&list[..n], 4, b"closest: ");
+    report(&list[..n], 5, b"nearest: ");
 }

@@ -3,7 +3,7 @@
 use crate::{
     inputs::{Rng, Size},
     mania::ManiaHitResults,
-    ours::Accuracy,
+    ours,
     query::CAP,
     tally::Tally,
 };
@@ -61,15 +61,15 @@ pub fn random(rng: &mut Rng) -> [u32; 6] {
     counts
 }
 
-pub fn run(ours: Accuracy, rng: &mut Rng) -> bool {
+pub fn run(rng: &mut Rng) -> bool {
     let mut tally = Tally::new("accuracy");
-    let size = Size::new(1_000_000);
+    let size = Size::new(2_000_000);
 
     let mut compare = |counts: &[u32; 6]| {
         for classic in [false, true] {
             let expected = answer(counts, classic);
             let mut value = BEFORE;
-            let status = ours.call(counts, classic, &mut value);
+            let status = ours::accuracy(counts, classic, &mut value);
             let ours = (status, value.to_bits());
             let right = match expected {
                 Ok(bits) => (0, bits),

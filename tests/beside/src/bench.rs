@@ -6,10 +6,11 @@ use std::{hint::black_box, time::Instant};
 use crate::{
     inputs::{self, Rng},
     mania::ManiaHitResults,
-    nearest,
-    ours::{Accuracy, Generator, Target},
+    nearest, ours,
     query::{ACC, CAP, CHART, Method, Query},
-    repo, target,
+    repo,
+    sheet::{self, ANSWER, CHARTS, Chart, QUERIES},
+    target,
 };
 
 const PASSES: usize = 5;
@@ -23,6 +24,12 @@ fn pass<T, R>(batch: &[T], call: impl Fn(&T) -> R) -> f64 {
     }
 
     start.elapsed().as_nanos() as f64 / batch.len() as f64
+}
+
+/// Nanoseconds a call in the best pass.
+fn best<T, R>(batch: &[T], call: impl Fn(&T) -> R) -> f64 {
+    let passes = (0..PASSES).map(|_| pass(batch, &call));
+    passes.fold(f64::INFINITY, f64::min)
 }
 
 /// Nanoseconds a call in the best pass of each side. The sides take turns, so that other load on
@@ -49,23 +56,17 @@ fn tell(what: &str, whose: &str, (ours, theirs): (f64, f64)) {
     );
 }
 
-fn call(ours: Generator, q: &Query) -> [u32; 7] {
+fn generate(q: &Query) -> [u32; 7] {
     let mut out = [0; 7];
-    ours.call(q, &mut out);
+    ours::generate(q, &mut out);
     out
 }
 
-/// A generator beside the Rust, or beside the plain walk for Nearest.
-fn generator(what: &str, ours: Generator, method: Method, batch: &[Query]) {
-    let ours = |q: &Query| call(ours, q);
-
+/// A method beside the Rust, or beside the plain walk for Nearest.
+fn method(what: &str, method: Method, batch: &[Query]) {
     match method {
-        Method::Nearest => tell(what, "the plain walk", time(batch, ours, nearest::walk)),
-        _ => tell(
-            what,
-            "the Rust",
-            time(batch, ours, |q| repo::generate(method, q)),
-        ),
+        Method::Nearest => tell(what, "the plain walk", time(batch, generate, nearest::walk)),
+        _ => tell(what, "the Rust", time(batch, generate, repo::generate)),
     }
 }
 
@@ -75,9 +76,9 @@ fn mixed(rng: &mut Rng, method: Method, n: usize, hits: u32) -> Vec<Query> {
 
     while batch.len() < n {
         let turn = rng.next();
-        let q = inputs::query(rng, turn, hits);
+        let q = inputs::query(rng, method, turn, hits);
 
-        if q.has(ACC) && q.status(method) == 0 {
+        if q.has(ACC) && q.status() == 0 {
             batch.push(q);
         }
     }
@@ -85,13 +86,14 @@ fn mixed(rng: &mut Rng, method: Method, n: usize, hits: u32) -> Vec<Query> {
     batch
 }
 
-/// Queries of exactly so many hits, no misses, and so many of the five counts missing. The given
-/// ones take at most half the hits, so that there is much left to search.
+/// Queries for Closest of exactly so many hits, no misses, and so many of the five counts missing.
+/// The given ones take at most half the hits, so that there is much left to search.
 fn exact(rng: &mut Rng, n: usize, hits: u32, missing: usize) -> Vec<Query> {
     let mut query = || loop {
         let mut q = Query {
             n_objects: hits.min(CHART),
             n_hold_notes: hits - hits.min(CHART),
+            method: Method::Closest.code(),
             priority: 0,
             classic: hits <= CHART && rng.one_in(2),
             presence: ACC | rng.upto(31) as u8,
@@ -110,20 +112,19 @@ fn exact(rng: &mut Rng, n: usize, hits: u32, missing: usize) -> Vec<Query> {
     (0..n).map(|_| query()).collect()
 }
 
-fn closest(ours: Generator, rng: &mut Rng) {
+fn closest(rng: &mut Rng) {
     for (hits, n) in [(50, 256), (100, 256), (200, 128), (400, 64), (800, 32)] {
         for missing in 3..=5 {
             let batch = exact(rng, n, hits, missing);
             let what = format!("closest, {hits} hits, {missing} missing");
-            generator(&what, ours, Method::Closest, &batch);
+            method(&what, Method::Closest, &batch);
         }
     }
 
     for hits in [10_000, 2 * CHART] {
         for missing in 3..=5 {
             let batch = exact(rng, 256, hits, missing);
-            let passes = (0..PASSES).map(|_| pass(&batch, |q| call(ours, q)));
-            let ns = passes.fold(f64::INFINITY, f64::min);
+            let ns = best(&batch, generate);
             println!(
                 "bench closest, {hits} hits, {missing} missing: ours {}",
                 side(ns)
@@ -132,11 +133,12 @@ fn closest(ours: Generator, rng: &mut Rng) {
     }
 }
 
-/// The longest walk: no split reaches the target, and every candidate is tried.
-fn longest_walk(ours: Generator) {
+/// The query of the longest walk: no split reaches the target, and every candidate is tried.
+fn longest() -> Query {
     let mut q = Query {
         n_objects: CHART,
         n_hold_notes: CHART,
+        method: Method::Nearest.code(),
         priority: 0,
         classic: false,
         presence: ACC,
@@ -146,9 +148,13 @@ fn longest_walk(ours: Generator) {
         acc: 0.0,
     };
     q.aim(1);
+    q
+}
 
+fn longest_walk() {
+    let q = longest();
     let (_, tried) = nearest::walk(&q);
-    let (ours, walk) = time(&[q], |q| call(ours, q), nearest::walk);
+    let (ours, walk) = time(&[q], generate, nearest::walk);
 
     println!(
         "bench nearest, {tried} candidates: ours {:.2} ns a candidate; the plain walk {:.2} ns; \
@@ -160,60 +166,131 @@ fn longest_walk(ours: Generator) {
 }
 
 pub fn run(rng: &mut Rng) {
-    if let Some(ours) = Accuracy::linked() {
-        accuracy(ours, rng);
-    }
+    accuracy(rng);
+    target(rng);
 
-    if let Some(ours) = Target::linked() {
-        let batch = mixed(rng, Method::IgnoreAcc, 4_096, 2_000);
-        let ours = |q: &Query| {
-            let mut out = [0; 4];
-            ours.call(q, &mut out);
-            out
-        };
-        tell("target", "the Rust", time(&batch, ours, target::answer));
-    }
-
-    for method in [
-        Method::IgnoreAcc,
-        Method::Fast,
-        Method::Closest,
-        Method::Nearest,
+    for (of, n, hits) in [
+        (Method::IgnoreAcc, 4_096, 2_000),
+        (Method::Fast, 4_096, 2_000),
+        (Method::Closest, 4_096, 20),
+        (Method::Nearest, 256, 2_000),
     ] {
-        let Some(ours) = Generator::linked(method) else {
-            continue;
-        };
+        let batch = mixed(rng, of, n, hits);
+        method(&format!("{}, up to {hits} hits", of.name()), of, &batch);
+    }
 
-        let hits = if method == Method::Closest { 20 } else { 2_000 };
-        let n = if method == Method::Nearest {
-            256
-        } else {
-            4_096
-        };
-        let batch = mixed(rng, method, n, hits);
-        generator(
-            &format!("{}, up to {hits} hits", method.name()),
-            ours,
-            method,
-            &batch,
-        );
+    closest(rng);
+    longest_walk();
+    sheets(rng);
+}
 
-        match method {
-            Method::Closest => closest(ours, rng),
-            Method::Nearest => longest_walk(ours),
-            _ => {}
+/// A full sheet: its bytes, and its queries as the Rust takes them.
+struct Full {
+    bytes: Vec<u8>,
+    queries: Vec<Query>,
+}
+
+impl Full {
+    /// The rows go round the charts.
+    fn new(charts: &[Chart], mut query: impl FnMut(Chart) -> Query) -> Self {
+        let round = charts.iter().copied().enumerate().cycle();
+        let (queries, rows): (Vec<_>, Vec<_>) = round
+            .take(QUERIES)
+            .map(|(index, chart)| {
+                let q = query(chart);
+                (q, sheet::row(index, &q))
+            })
+            .unzip();
+
+        Self {
+            bytes: sheet::bytes(charts, &rows),
+            queries,
+        }
+    }
+
+    /// A sheet of accepted queries with an accuracy.
+    fn accepted(rng: &mut Rng, method: Method, hits: u32) -> Self {
+        let charts: Vec<_> = (0..CHARTS).map(|_| inputs::chart(rng, hits)).collect();
+
+        Self::new(&charts, |chart| {
+            loop {
+                let turn = rng.next();
+                let q = inputs::query_over(rng, chart, method, turn);
+
+                if q.has(ACC) && q.status() == 0 {
+                    return q;
+                }
+            }
+        })
+    }
+
+    fn ours(&self) -> Vec<u8> {
+        let mut out = vec![0; ANSWER * QUERIES];
+        ours::work_sheet(&self.bytes, &mut out);
+        out
+    }
+
+    /// The Rust, or the plain walk, on the same bytes, which sheet.rs reads, checks and writes.
+    fn theirs(&self) -> Result<Vec<u8>, u32> {
+        sheet::answers(&self.bytes).map(|answers| sheet::written(&answers))
+    }
+
+    /// The Rust, or the plain walk, with nothing read, checked or written.
+    fn alone(&self) {
+        for q in &self.queries {
+            match q.method() {
+                Some(Method::Nearest) => drop(black_box(nearest::walk(q))),
+                _ => drop(black_box(repo::generate(q))),
+            }
         }
     }
 }
 
-fn accuracy(ours: Accuracy, rng: &mut Rng) {
+fn sheets(rng: &mut Rng) {
+    for (method, hits, whose) in [
+        (Method::IgnoreAcc, 2_000, "the Rust"),
+        (Method::Fast, 2_000, "the Rust"),
+        (Method::Closest, 100, "the Rust"),
+        (Method::Nearest, 2_000, "the plain walk"),
+    ] {
+        let what = format!("full sheets of {}, up to {hits} hits", method.name());
+        let batch: Vec<_> = (0..16).map(|_| Full::accepted(rng, method, hits)).collect();
+        let row = |ns: f64| ns / QUERIES as f64;
+
+        let (ours, theirs) = time(&batch, Full::ours, Full::theirs);
+        tell(&what, whose, (row(ours), row(theirs)));
+        let (ours, alone) = time(&batch, Full::ours, Full::alone);
+        tell(&what, &format!("{whose} alone"), (row(ours), row(alone)));
+    }
+
+    let worst = [Full::new(&[(CHART, CHART)], |_| longest())];
+    println!(
+        "bench a full sheet of longest walks at {} hits: ours {:.3} s",
+        2 * CHART,
+        best(&worst, Full::ours) / 1e9
+    );
+}
+
+fn target(rng: &mut Rng) {
+    let batch = mixed(rng, Method::IgnoreAcc, 4_096, 2_000);
+
+    let ours = |q: &Query| {
+        let mut out = [0; 4];
+        ours::target(q, &mut out);
+        out
+    };
+
+    tell("target", "the Rust", time(&batch, ours, target::answer));
+}
+
+fn accuracy(rng: &mut Rng) {
     let batch: Vec<_> = (0..4_096)
         .map(|_| std::array::from_fn::<_, 6, _>(|_| rng.upto(CAP)))
         .collect();
 
     let ours = |counts: &[u32; 6]| {
         let mut value = 0.0;
-        ours.call(counts, false, &mut value);
+        ours::accuracy(counts, false, &mut value);
         value
     };
 

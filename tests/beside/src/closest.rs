@@ -4,7 +4,6 @@
 
 use crate::{
     inputs::{self, Rng, Size},
-    ours::Generator,
     query::{CHART, Method, Query},
     repo,
     tally::Tally,
@@ -43,9 +42,9 @@ fn large(rng: &mut Rng) -> Query {
     loop {
         let most = rng.pick(&[2_000, 2_000, 10_000, CHART, CHART + 1]);
         let turn = rng.next();
-        let q = inputs::query(rng, turn, most);
+        let q = inputs::query(rng, Method::Closest, turn, most);
 
-        if q.status(Method::Closest) != 0 {
+        if q.status() != 0 {
             continue;
         }
 
@@ -61,16 +60,16 @@ fn large(rng: &mut Rng) -> Query {
     }
 }
 
-pub fn run(ours: Generator, rng: &mut Rng) -> bool {
+pub fn run(rng: &mut Rng) -> bool {
     let method = Method::Closest;
     let mut tally = Tally::new(method.name());
-    let size = Size::new(1_000_000);
+    let size = Size::new(2_000_000);
 
-    tally.plays(ours, method, repo::answer);
+    tally.plays(method, repo::answer);
 
-    let mut compare = |q: &Query| tally.generator(ours, method, q, repo::answer(method, q));
+    let mut compare = |q: &Query| tally.generate(q, repo::answer(q));
 
-    inputs::exhaustive(SMALL, &mut |q| {
+    inputs::exhaustive(method, SMALL, &mut |q| {
         if rng.one_in(size.one_in) {
             compare(q);
         }
@@ -78,7 +77,7 @@ pub fn run(ours: Generator, rng: &mut Rng) -> bool {
 
     for turn in 0..size.random {
         let hits = hits(rng);
-        compare(&inputs::query(rng, turn, hits));
+        compare(&inputs::query(rng, method, turn, hits));
     }
 
     for _ in 0..LARGE / u64::from(size.one_in) {

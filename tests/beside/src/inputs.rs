@@ -3,7 +3,7 @@
 
 use std::env;
 
-use crate::query::{ACC, CAP, CHART, MISSES, PASSED, Query};
+use crate::query::{ACC, CAP, CHART, MISSES, Method, PASSED, Query};
 
 /// splitmix64.
 pub struct Rng(u64);
@@ -145,20 +145,38 @@ fn around(rng: &mut Rng, n: u32) -> u32 {
 /// Number of objects or hold notes at the limit.
 const LIMIT: [u32; 3] = [CHART - 1, CHART, CHART];
 
-/// A query over a chart of at most `hits` objects and hold notes together, or, where `hits` is over
-/// the limit, over one that touches it. The five presence bits, priority and classic go through all
-/// their values as `turn` grows. One in 16 queries is spoilt.
-pub fn query(rng: &mut Rng, turn: u64, hits: u32) -> Query {
-    let (n_objects, n_hold_notes) = if hits > CHART {
+/// Objects and hold notes of a chart: at most `hits` together, or, where `hits` is over the limit,
+/// at it.
+pub fn chart(rng: &mut Rng, hits: u32) -> (u32, u32) {
+    if hits > CHART {
         (rng.pick(&LIMIT), rng.pick(&LIMIT))
     } else {
         let n_objects = rng.upto(hits);
         (n_objects, rng.upto(hits - n_objects))
-    };
+    }
+}
+
+/// A query over a chart that `chart` makes. One in 16 queries is spoilt.
+pub fn query(rng: &mut Rng, method: Method, turn: u64, hits: u32) -> Query {
+    let chart = chart(rng, hits);
+    let mut q = query_over(rng, chart, method, turn);
+
+    if rng.one_in(16) {
+        spoil(rng, &mut q);
+    }
+
+    q
+}
+
+/// A query over this chart. The five presence bits, priority and classic go through all their
+/// values as `turn` grows.
+pub fn query_over(rng: &mut Rng, chart: (u32, u32), method: Method, turn: u64) -> Query {
+    let (n_objects, n_hold_notes) = chart;
 
     let mut q = Query {
         n_objects,
         n_hold_notes,
+        method: method.code(),
         priority: (turn >> 5) as u8 & 1,
         classic: (turn >> 6) & 1 == 1,
         presence: turn as u8 & 0x1F | rng.next() as u8 & 0xE0,
@@ -198,10 +216,6 @@ pub fn query(rng: &mut Rng, turn: u64, hits: u32) -> Query {
         if rng.one_in(4) {
             aim_between(rng, &mut q);
         }
-    }
-
-    if rng.one_in(16) {
-        spoil(rng, &mut q);
     }
 
     q
@@ -252,7 +266,7 @@ fn aim_between(rng: &mut Rng, q: &mut Query) {
 }
 
 /// Breaks what the table's checks ask for, often in several places, so that their order shows.
-fn spoil(rng: &mut Rng, q: &mut Query) {
+pub fn spoil(rng: &mut Rng, q: &mut Query) {
     if rng.one_in(4) {
         q.n_objects = rng.pick(&[CHART + 1, u32::MAX]);
     }
@@ -284,7 +298,7 @@ fn spoil(rng: &mut Rng, q: &mut Query) {
 /// overfull, which is 12 or 14: there one target each, which moves from query to query. One in 8
 /// has its like without accuracy. Objects, hold notes, passed and priority change from query to
 /// query too, and a missing field holds a number that means nothing.
-pub fn exhaustive(most: u32, visit: &mut dyn FnMut(&Query)) {
+pub fn exhaustive(method: Method, most: u32, visit: &mut dyn FnMut(&Query)) {
     let mut turn = 0_u32;
 
     for hits in 0..=most {
@@ -295,7 +309,7 @@ pub fn exhaustive(most: u32, visit: &mut dyn FnMut(&Query)) {
             for pattern in 0..32 {
                 for code in 0..(hits + 4).pow(u32::count_ones(pattern)) {
                     turn = turn.wrapping_add(1);
-                    let mut q = small(hits, classic, misses, turn);
+                    let mut q = small(hits, classic, misses, turn).by(method);
                     place(&mut q, pattern, code, hits);
                     aims(&mut q, turn, visit);
                 }
@@ -328,6 +342,7 @@ fn small(hits: u32, classic: bool, misses: u32, turn: u32) -> Query {
     Query {
         n_objects,
         n_hold_notes,
+        method: 0,
         priority: (turn / 3 % 2) as u8,
         classic,
         presence,

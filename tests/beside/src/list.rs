@@ -14,11 +14,11 @@
 use std::{env, fs, io};
 
 use crate::{
-    accuracy, closest,
+    accuracy, generate,
     inputs::{self, Rng},
-    nearest, plain, plays,
+    plays,
     query::{ACC, Answer, MISSES, Method, PASSED, Query},
-    repo, target,
+    target,
 };
 
 /// Records of each kind.
@@ -31,6 +31,7 @@ const SEED: u64 = 1;
 const EMPTY: Query = Query {
     n_objects: 0,
     n_hold_notes: 0,
+    method: 0,
     priority: 0,
     classic: false,
     presence: 0,
@@ -129,7 +130,7 @@ fn targets(rng: &mut Rng) -> Vec<Vec<u8>> {
     inputs.iter().map(|q| record(1, q, &answer(q))).collect()
 }
 
-fn generated(kind: u8, method: Method, hits: fn(&mut Rng) -> u32, rng: &mut Rng) -> Vec<Vec<u8>> {
+fn generated(kind: u8, method: Method, rng: &mut Rng) -> Vec<Vec<u8>> {
     let mut inputs: Vec<_> = plays::of(method)
         .into_iter()
         .map(|play| play.query)
@@ -142,21 +143,19 @@ fn generated(kind: u8, method: Method, hits: fn(&mut Rng) -> u32, rng: &mut Rng)
             .then(|| [7, 8, 10, 11][turn / 10 % 4]);
 
         inputs.push(loop {
-            let hits = hits(rng);
-            let q = inputs::query(rng, turn as u64, hits);
+            let hits = generate::hits(rng, method);
+            let q = inputs::query(rng, method, turn as u64, hits);
 
-            if wanted.is_none_or(|status| status == q.status(method)) {
+            if wanted.is_none_or(|status| status == q.status()) {
                 break q;
             }
         });
     }
 
-    let answer = |q: &Query| match method {
-        Method::Nearest => nearest::answer(q),
-        _ => repo::answer(method, q),
-    };
-
-    inputs.iter().map(|q| record(kind, q, &answer(q))).collect()
+    inputs
+        .iter()
+        .map(|q| record(kind, q, &generate::answer(q)))
+        .collect()
 }
 
 /// Writes the kinds that KINDS names, 0 and 1 by default, to the file LIST_OUT.
@@ -172,10 +171,10 @@ pub fn write() -> io::Result<()> {
         let records = match kind.trim() {
             "0" => accuracies(rng),
             "1" => targets(rng),
-            "2" => generated(2, Method::IgnoreAcc, plain::hits, rng),
-            "3" => generated(3, Method::Fast, plain::hits, rng),
-            "4" => generated(4, Method::Closest, closest::hits, rng),
-            "5" => generated(5, Method::Nearest, nearest::hits, rng),
+            "2" => generated(2, Method::IgnoreAcc, rng),
+            "3" => generated(3, Method::Fast, rng),
+            "4" => generated(4, Method::Closest, rng),
+            "5" => generated(5, Method::Nearest, rng),
             _ => return Err(io::Error::other(format!("unknown kind {kind:?} in KINDS"))),
         };
 

@@ -5,9 +5,8 @@
 use crate::{
     closest::SMALL,
     inputs::{self, Rng, Size},
-    ours::Generator,
+    ours,
     query::{Answer, CHART, Method, Query},
-    repo,
     tally::Tally,
 };
 
@@ -126,7 +125,7 @@ pub fn walk(q: &Query) -> ([u32; 5], u32) {
 }
 
 pub fn answer(q: &Query) -> Answer {
-    match q.status(Method::Nearest) {
+    match q.status() {
         0 => {
             let ([n320, n300, n200, n100, n50], tried) = walk(q);
             Answer {
@@ -157,18 +156,19 @@ fn nearest_split(given: &[Option<u32>], weights: &[u32], hits: u32, score: i64) 
         .min()
 }
 
-struct Part {
-    tally: Tally,
-    ours: Generator,
-}
+struct Part(Tally);
 
 impl Part {
     fn compare(&mut self, q: &Query) {
         let answer = answer(q);
-        self.tally.generator(self.ours, Method::Nearest, q, answer);
+        self.0.generate(q, answer);
 
         if matches!(answer.status, 0 | 14) && q.total_hits() <= ALL_SPLITS {
             self.judge_by_all_splits(q, &answer);
+        }
+
+        if answer.status == 0 && q.missing() == 2 {
+            self.compare_with_closest(q, &answer);
         }
     }
 
@@ -184,37 +184,20 @@ impl Part {
         let found = (answer.status == 0 && keeps && sums).then(|| q.distance(counts));
         let nearest = nearest_split(&q.given(), &q.weights(), q.remain(), q.target());
 
-        self.tally.judge(
+        self.0.judge(
             found == nearest && found.is_some() == (answer.status == 0),
             || format!("{q}: {answer}, at {found:?}, where the nearest split is at {nearest:?}"),
         );
     }
 
-    /// With two missing and both answered, Closest's counts lie as far from the target. Closest is
-    /// the library's if it is linked, else the repository's.
-    fn compare_with_closest(&mut self, q: &Query) {
-        if q.missing() != 2 || q.status(Method::Nearest) != 0 {
-            return;
-        }
-
+    /// With two missing, the library's Closest lies as far from the target.
+    fn compare_with_closest(&mut self, q: &Query, answer: &Answer) {
         let mut closest = [0; 7];
-        let status = match Generator::linked(Method::Closest) {
-            Some(linked) => linked.call(q, &mut closest),
-            None => {
-                let answer = repo::answer(Method::Closest, q);
-                closest = answer.values;
-                answer.status
-            }
-        };
-        let (nearest, _) = walk(q);
+        let status = ours::generate(&q.by(Method::Closest), &mut closest);
 
-        self.tally.judge(
-            status == 0 && q.distance(&closest[..5]) == q.distance(&nearest),
-            || {
-                format!(
-                    "{q}: Closest {status} {closest:?} and Nearest {nearest:?} differ in distance"
-                )
-            },
+        self.0.judge(
+            status == 0 && q.distance(&closest[..5]) == q.distance(&answer.values[..5]),
+            || format!("{q}: {answer}, where Closest's {status} {closest:?} is not as far"),
         );
     }
 }
@@ -230,27 +213,23 @@ pub fn hits(rng: &mut Rng) -> u32 {
     }
 }
 
-pub fn run(ours: Generator, rng: &mut Rng) -> bool {
-    let mut tally = Tally::new(Method::Nearest.name());
-    let size = Size::new(1_000_000);
+pub fn run(rng: &mut Rng) -> bool {
+    let method = Method::Nearest;
+    let mut part = Part(Tally::new(method.name()));
+    let size = Size::new(2_000_000);
 
-    tally.plays(ours, Method::Nearest, |_, q| answer(q));
+    part.0.plays(method, answer);
 
-    let mut part = Part { tally, ours };
-
-    inputs::exhaustive(SMALL, &mut |q| {
+    inputs::exhaustive(method, SMALL, &mut |q| {
         if rng.one_in(size.one_in) {
             part.compare(q);
-            part.compare_with_closest(q);
         }
     });
 
     for turn in 0..size.random {
         let hits = hits(rng);
-        let q = inputs::query(rng, turn, hits);
-        part.compare(&q);
-        part.compare_with_closest(&q);
+        part.compare(&inputs::query(rng, method, turn, hits));
     }
 
-    part.tally.finish()
+    part.0.finish()
 }

@@ -2,7 +2,6 @@
 
 use crate::{
     inputs::{self, Rng, Size},
-    ours::Generator,
     query::{CHART, Method},
     repo,
     tally::Tally,
@@ -18,14 +17,14 @@ pub fn hits(rng: &mut Rng) -> u32 {
     }
 }
 
-pub fn run(method: Method, ours: Generator, rng: &mut Rng) -> bool {
+pub fn run(method: Method, rng: &mut Rng) -> bool {
     let mut tally = Tally::new(method.name());
-    tally.plays(ours, method, repo::answer);
+    tally.plays(method, repo::answer);
 
     for turn in 0..Size::new(2_000_000).random {
         let hits = hits(rng);
-        let q = inputs::query(rng, turn, hits);
-        tally.generator(ours, method, &q, repo::answer(method, &q));
+        let q = inputs::query(rng, method, turn, hits);
+        tally.generate(&q, repo::answer(&q));
     }
 
     tally.finish()

@@ -28,6 +28,7 @@ fn chart(n_objects: u32, given: &[(&str, u32)]) -> Query {
     let mut q = Query {
         n_objects,
         n_hold_notes: 0,
+        method: 0,
         priority: 0,
         classic: false,
         presence: ACC,
@@ -84,7 +85,7 @@ pub fn of(method: Method) -> Vec<Play> {
 
     let play = |label, query: Query, counts| Play {
         label,
-        query,
+        query: query.by(method),
         status: 0,
         counts,
         misses: query.capped_misses(),

@@ -23,6 +23,13 @@ pub enum Method {
 }
 
 impl Method {
+    /// In the order of their codes.
+    pub const ALL: [Self; 4] = [Self::IgnoreAcc, Self::Fast, Self::Closest, Self::Nearest];
+
+    pub fn code(self) -> u8 {
+        self as u8
+    }
+
     pub fn name(self) -> &'static str {
         match self {
             Self::IgnoreAcc => "ignore_acc",
@@ -38,6 +45,7 @@ impl Method {
 pub struct Query {
     pub n_objects: u32,
     pub n_hold_notes: u32,
+    pub method: u8,
     pub priority: u8,
     pub classic: bool,
     pub presence: u8,
@@ -64,6 +72,18 @@ impl Answer {
 }
 
 impl Query {
+    pub fn method(&self) -> Option<Method> {
+        Method::ALL.get(usize::from(self.method)).copied()
+    }
+
+    /// The same query for another method.
+    pub fn by(self, method: Method) -> Self {
+        Self {
+            method: method.code(),
+            ..self
+        }
+    }
+
     pub fn has(&self, bit: u8) -> bool {
         self.presence & bit != 0
     }
@@ -148,15 +168,19 @@ impl Query {
         !(0.0..=1.0).contains(&self.acc)
     }
 
-    /// The number by which the document stops a direct call of this method, or 0.
-    pub fn status(&self, method: Method) -> u32 {
+    /// The number by which the document stops a direct call, or 0.
+    pub fn status(&self) -> u32 {
         let over = |given: Option<u32>| given.is_some_and(|n| n > CAP);
 
         if self.chart_over() {
             return 7;
-        } else if self.priority > 1 {
+        }
+
+        let Some(method) = self.method().filter(|_| self.priority <= 1) else {
             return 8;
-        } else if self.given().into_iter().any(over) || over(self.given_misses()) {
+        };
+
+        if self.given().into_iter().any(over) || over(self.given_misses()) {
             return 10;
         } else if self.has(ACC) && self.acc_outside() {
             return 11;
@@ -177,8 +201,13 @@ impl fmt::Display for Query {
     fn fmt(&self, f: &mut fmt::Formatter<'_>) -> fmt::Result {
         write!(
             f,
-            "objects {} holds {} priority {} classic {} presence {:#04x}",
-            self.n_objects, self.n_hold_notes, self.priority, self.classic, self.presence
+            "objects {} holds {} method {} priority {} classic {} presence {:#04x}",
+            self.n_objects,
+            self.n_hold_notes,
+            self.method,
+            self.priority,
+            self.classic,
+            self.presence
         )?;
 
         for (name, n) in NAMES.into_iter().zip(self.given()) {

@@ -143,14 +143,16 @@ pub fn inspect<T>(q: &Query, f: impl FnOnce(InspectManiaPerformance<'_>) -> T) -
 }
 
 /// Runs one of the repository's generators.
-pub fn generate(method: Method, q: &Query) -> ManiaHitResults {
-    inspect(q, |inspect| match method {
-        Method::IgnoreAcc => {
+pub fn generate(q: &Query) -> ManiaHitResults {
+    inspect(q, |inspect| match q.method() {
+        Some(Method::IgnoreAcc) => {
             <IgnoreAccuracy as HitResultGenerator<Mania>>::generate_hitresults(inspect)
         }
-        Method::Fast => <Fast as HitResultGenerator<Mania>>::generate_hitresults(inspect),
-        Method::Closest => <Closest as HitResultGenerator<Mania>>::generate_hitresults(inspect),
-        Method::Nearest => unreachable!("Nearest is not the repository's"),
+        Some(Method::Fast) => <Fast as HitResultGenerator<Mania>>::generate_hitresults(inspect),
+        Some(Method::Closest) => {
+            <Closest as HitResultGenerator<Mania>>::generate_hitresults(inspect)
+        }
+        _ => unreachable!("the repository has no method {}", q.method),
     })
 }
 
@@ -159,14 +161,14 @@ const PANIC: u32 = u32::MAX;
 
 /// What the repository answers: document 01's number for what the document stops beforehand, else
 /// the counts, 12 for an overflow in Closest, and `PANIC` for any other panic.
-pub fn answer(method: Method, q: &Query) -> Answer {
-    match q.status(method) {
+pub fn answer(q: &Query) -> Answer {
+    match q.status() {
         0 | 12 => {}
         status => return Answer::refused(status),
     }
 
     QUIET.set(true);
-    let outcome = panic::catch_unwind(AssertUnwindSafe(|| generate(method, q)));
+    let outcome = panic::catch_unwind(AssertUnwindSafe(|| generate(q)));
     QUIET.set(false);
 
     match outcome {
@@ -175,7 +177,9 @@ pub fn answer(method: Method, q: &Query) -> Answer {
             values: [r.n320, r.n300, r.n200, r.n100, r.n50, r.misses, 0],
         },
         Err(panic) => match panic.downcast_ref::<&str>() {
-            Some(message) if method == Method::Closest && message.ends_with("overflow") => {
+            Some(message)
+                if q.method() == Some(Method::Closest) && message.ends_with("overflow") =>
+            {
                 Answer::refused(12)
             }
             _ => Answer::refused(PANIC),

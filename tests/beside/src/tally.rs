@@ -3,16 +3,15 @@
 use std::time::Instant;
 
 use crate::{
-    ours::Generator,
-    plays,
+    ours, plays,
     query::{Answer, Method, Query},
 };
 
 /// What stands in lent memory before a call, to see what the call leaves alone.
 const SENTINEL: u32 = 0x5E17_1CED;
 
-/// The places of that memory, more than any output needs.
-const PLACES: usize = 9;
+/// The places of that memory, more than any output has.
+const PLACES: usize = 12;
 
 /// How many differences are told.
 const TOLD: u64 = 5;
@@ -60,7 +59,7 @@ impl Tally {
     }
 
     /// Compares a call that writes the first `N` places of its output: its status and all the
-    /// memory. Every 16th input is also given too few places, which is 5 whatever the input.
+    /// memory. Every fifth input is also given too few places, which is 5 whatever the input.
     pub fn output<const N: usize>(
         &mut self,
         call: impl Fn(&mut [u32]) -> u32,
@@ -84,8 +83,8 @@ impl Tally {
             format!("{q}: ours {ours} {memory:?}, expected {status} {right:?}")
         });
 
-        if self.inputs.is_multiple_of(16) {
-            let len = (self.inputs / 16) as usize % N;
+        if self.inputs.is_multiple_of(5) {
+            let len = (self.inputs / 5) as usize % N;
             let mut memory = [SENTINEL; PLACES];
             let ours = call(&mut memory[..len]);
 
@@ -97,26 +96,26 @@ impl Tally {
 
     /// Compares the plays of document 01: the other side's answer with the document's, ours with
     /// the other side's.
-    pub fn plays(
-        &mut self,
-        ours: Generator,
-        method: Method,
-        answer: impl Fn(Method, &Query) -> Answer,
-    ) {
+    pub fn plays(&mut self, method: Method, answer: impl Fn(&Query) -> Answer) {
         for play in plays::of(method) {
-            let answer = answer(method, &play.query);
-            self.generator(ours, method, &play.query, answer);
+            let answer = answer(&play.query);
+            self.generate(&play.query, answer);
             self.judge(play.holds(&answer), || {
                 format!("play {}: {answer}, not as document 01 says", play.label)
             });
         }
     }
 
-    /// Compares a generator with an answer, and the answer's status with document 01's.
-    pub fn generator(&mut self, ours: Generator, method: Method, q: &Query, answer: Answer) {
-        self.output(|out| ours.call(q, out), q, answer.status, answer.values);
+    /// Compares the direct call with an answer, and the answer's status with document 01's.
+    pub fn generate(&mut self, q: &Query, answer: Answer) {
+        self.output(
+            |out| ours::generate(q, out),
+            q,
+            answer.status,
+            answer.values,
+        );
 
-        let status = q.status(method);
+        let status = q.status();
         self.judge(status == answer.status, || {
             format!("{q}: {answer}, where document 01 says {status}")
         });

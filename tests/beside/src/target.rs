@@ -2,8 +2,8 @@
 
 use crate::{
     inputs::{self, INSIDE, OUTSIDE, Rng, Size},
-    ours::Target,
-    query::{CAP, CHART, MISSES, PASSED, Query},
+    ours,
+    query::{CAP, CHART, MISSES, Method, PASSED, Query},
     repo,
     tally::Tally,
 };
@@ -49,6 +49,7 @@ pub fn limits(mut visit: impl FnMut(&Query)) {
                         visit(&Query {
                             n_objects,
                             n_hold_notes,
+                            method: 0,
                             priority: 0,
                             classic,
                             presence,
@@ -69,7 +70,7 @@ pub fn limits(mut visit: impl FnMut(&Query)) {
 pub fn random(rng: &mut Rng) -> Query {
     let hits = rng.pick(&[6, 100, 3_000, CHART, CHART + 1]);
     let turn = rng.next();
-    let mut q = inputs::query(rng, turn, hits);
+    let mut q = inputs::query(rng, Method::IgnoreAcc, turn, hits);
 
     if !q.chart_over() && !rng.one_in(16) {
         q.acc = inputs::acc(rng, q.full_points());
@@ -78,13 +79,13 @@ pub fn random(rng: &mut Rng) -> Query {
     q
 }
 
-pub fn run(ours: Target, rng: &mut Rng) -> bool {
+pub fn run(rng: &mut Rng) -> bool {
     let mut tally = Tally::new("target");
-    let size = Size::new(1_000_000);
+    let size = Size::new(2_000_000);
 
     let mut compare = |q: &Query| {
         let (status, values) = answer(q);
-        tally.output(|out| ours.call(q, out), q, status, values);
+        tally.output(|out| ours::target(q, out), q, status, values);
     };
 
     limits(|q| {

@@ -1,0 +1,15 @@
+-- Document 01, Records: "Answer, 32 bytes in the lent output per query, as u32: status, n320, n300, n200, n100, n50, misses,
+-- tried", and Where a row or sheet stops: "later ones write that row's status and 28 zero bytes".
+use mathlib.Core.List.{List, _++_}
+use Prim.Native.Nat.{ℕ}
+use lib.ListN.{getD}
+use Rattle.little_endian.specs.Bytes.{bytes4}
+use Rattle.inspect.specs.Answers.{Answer}
+
+-- the k-th value of an answer, from n320 (0) to tried (6); 0 where it has none
+abbrev pub value : Answer → ℕ → ℕ
+value a k = getD (a .values) k 0
+
+unfoldable pub answerBytes : Answer → List ℕ
+answerBytes a =
+    bytes4 (a .status) ++ bytes4 (value a 0) ++ bytes4 (value a 1) ++ bytes4 (value a 2) ++ bytes4 (value a 3) ++ bytes4 (value a 4) ++ bytes4 (value a 5) ++ bytes4 (value a 6)

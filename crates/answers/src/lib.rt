@@ -1,0 +1,46 @@
+// The 32 bytes of a row's answer.
+ghost use mathlib.Core.Path.{_≡_};
+ghost use mathlib.Core.List.{[], _∷_};
+ghost use Prim.Native.Nat.{_+_, _≤_};
+ghost use lib.ListN.{length};
+ghost use Rattle.little_endian.specs.Bytes.{put};
+ghost use Rattle.generate.specs.Generated.{generatedOf};
+ghost use Rattle.answers.specs.Answers.{answerBytes};
+use generate::Generated;
+use score_state::HitResults;
+
+// The eight fields of an answer, side by side.
+fn put_fields(out: &mut [u8], at: usize, status: u32, c: HitResults, tried: u32)
+    requires { ⌜ at + 32 ≤ length (now out) ⌝ }
+    ensures { λ _. ⌜ now (out .exit) ≡ put (now (out .entry)) at (answerBytes (record { status = status; values = c .n320 ∷ c .n300 ∷ c .n200 ∷ c .n100 ∷ c .n50 ∷ c .misses ∷ tried ∷ [] })) ⌝ }
+{
+    little_endian::put_u32(out, at, status);
+    little_endian::put_u32(out, at + 4, c.n320);
+    little_endian::put_u32(out, at + 8, c.n300);
+    little_endian::put_u32(out, at + 12, c.n200);
+    little_endian::put_u32(out, at + 16, c.n100);
+    little_endian::put_u32(out, at + 20, c.n50);
+    little_endian::put_u32(out, at + 24, c.misses);
+    little_endian::put_u32(out, at + 28, tried);
+}
+
+// The 32 bytes of an answer.
+pub fn put_answer(out: &mut [u8], at: usize, answer: Generated)
+    requires { ⌜ at + 32 ≤ length (now out) ⌝ }
+    ensures { λ _. ⌜ now (out .exit) ≡ put (now (out .entry)) at (answerBytes (generatedOf answer)) ⌝ }
+{
+    match answer {
+        Generated::Counts(counts, tried) => put_fields(out, at, 0, counts, tried),
+        Generated::Refused(status) => {
+            let none = HitResults {
+                n320: 0,
+                n300: 0,
+                n200: 0,
+                n100: 0,
+                n50: 0,
+                misses: 0,
+            };
+            put_fields(out, at, status, none, 0)
+        }
+    }
+}

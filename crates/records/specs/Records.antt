@@ -1,0 +1,50 @@
+-- Document 01, Records, Sheet: "Charts (at most 256, 8 bytes: objects, holds), then queries (at most 1,024, 44 bytes): 0: chart
+-- index u16. 2: method u8. 3: priority u8. 4: classic u8. 5: presence u8. 6: two zero bytes. 8, 12, 16, 20, 24, 28: the five
+-- counts and misses. 32: passed. 36: acc, f64 bits."
+use mathlib.Core.List.{List, []}
+use Prim.Native.Nat.{ℕ, _+_}
+use Rattle.little_endian.specs.Bytes.{byte, u16At, u32At, u64At}
+use Rattle.inspect.specs.declared.Chart.{Chart}
+use Rattle.score_state.specs.declared.HitResults.{HitResults}
+use Rattle.records.specs.declared.Row.{Row}
+
+-- the chart that starts at a place
+unfoldable pub chartAt : List ℕ → ℕ → Chart
+chartAt s at = record { «n_objects» = u32At s at; «n_hold_notes» = u32At s (at + 4) }
+
+-- the query that starts at a place
+unfoldable pub rowAt : List ℕ → ℕ → Row
+rowAt s at =
+    record {
+      chart = u16At s at;
+      method = byte s (at + 2);
+      priority = byte s (at + 3);
+      classic = byte s (at + 4);
+      presence = byte s (at + 5);
+      zeros = u16At s (at + 6);
+      n320 = u32At s (at + 8);
+      n300 = u32At s (at + 12);
+      n200 = u32At s (at + 16);
+      n100 = u32At s (at + 20);
+      n50 = u32At s (at + 24);
+      misses = u32At s (at + 28);
+      passed = u32At s (at + 32);
+      acc = u64At s (at + 36);
+    }
+
+-- its counts and misses alone
+unfoldable pub countsAt : List ℕ → ℕ → HitResults
+countsAt s at =
+    record {
+      n320 = u32At s (at + 8);
+      n300 = u32At s (at + 12);
+      n200 = u32At s (at + 16);
+      n100 = u32At s (at + 20);
+      n50 = u32At s (at + 24);
+      misses = u32At s (at + 28);
+    }
+
+-- a query of no bytes: all zeros
+unfoldable pub noRow : Row
+unfolding rowAt
+noRow = rowAt [] 0

@@ -1,0 +1,107 @@
+// A sheet's records as numbers: a chart of 8 bytes and a query's row of 44.
+ghost use mathlib.Core.Path.{_≡_};
+ghost use Prim.Native.Nat.{_+_, _≤_};
+ghost use lib.ListN.{length};
+ghost use Rattle.records.specs.Records.{chartAt, countsAt, rowAt, noRow};
+use inspect::Chart;
+use score_state::HitResults;
+
+// A query as it stands in the sheet: zeros is the two bytes at 6 as one number, acc the bits of its f64.
+pub struct Row {
+    pub chart: u32,
+    pub method: u8,
+    pub priority: u8,
+    pub classic: u8,
+    pub presence: u8,
+    pub zeros: u32,
+    pub n320: u32,
+    pub n300: u32,
+    pub n200: u32,
+    pub n100: u32,
+    pub n50: u32,
+    pub misses: u32,
+    pub passed: u32,
+    pub acc: u64,
+}
+
+pub fn read_chart(s: &[u8], at: usize) -> Chart
+    requires { ⌜ at + 8 ≤ length (now s) ⌝ }
+    ensures { λ r. ⌜ r ≡ chartAt (now (s .entry)) at ⌝ }
+{
+    let objects = little_endian::u32_at(s, at);
+    let holds = little_endian::u32_at(s, at + 4);
+    Chart {
+        n_objects: objects,
+        n_hold_notes: holds,
+    }
+}
+
+// The five counts and misses of the query at a place.
+fn read_counts(s: &[u8], at: usize) -> HitResults
+    requires { ⌜ at + 44 ≤ length (now s) ⌝ }
+    ensures { λ r. ⌜ r ≡ countsAt (now (s .entry)) at ⌝ }
+{
+    let n320 = little_endian::u32_at(s, at + 8);
+    let n300 = little_endian::u32_at(s, at + 12);
+    let n200 = little_endian::u32_at(s, at + 16);
+    let n100 = little_endian::u32_at(s, at + 20);
+    let n50 = little_endian::u32_at(s, at + 24);
+    let misses = little_endian::u32_at(s, at + 28);
+    HitResults {
+        n320,
+        n300,
+        n200,
+        n100,
+        n50,
+        misses,
+    }
+}
+
+pub fn read_row(s: &[u8], at: usize) -> Row
+    requires { ⌜ at + 44 ≤ length (now s) ⌝ }
+    ensures { λ r. ⌜ r ≡ rowAt (now (s .entry)) at ⌝ }
+{
+    let chart = little_endian::u16_at(s, at);
+    let zeros = little_endian::u16_at(s, at + 6);
+    let counts = read_counts(s, at);
+    let passed = little_endian::u32_at(s, at + 32);
+    let acc = little_endian::u64_at(s, at + 36);
+    Row {
+        chart,
+        method: s[at + 2],
+        priority: s[at + 3],
+        classic: s[at + 4],
+        presence: s[at + 5],
+        zeros,
+        n320: counts.n320,
+        n300: counts.n300,
+        n200: counts.n200,
+        n100: counts.n100,
+        n50: counts.n50,
+        misses: counts.misses,
+        passed,
+        acc,
+    }
+}
+
+// All zeros.
+pub fn no_row() -> Row
+    ensures { λ r. ⌜ r ≡ noRow ⌝ }
+{
+    Row {
+        chart: 0,
+        method: 0,
+        priority: 0,
+        classic: 0,
+        presence: 0,
+        zeros: 0,
+        n320: 0,
+        n300: 0,
+        n200: 0,
+        n100: 0,
+        n50: 0,
+        misses: 0,
+        passed: 0,
+        acc: 0,
+    }
+}

@@ -1,0 +1,75 @@
+-- Document 01, Where a row or sheet stops: row 6 "chart index not below chart count", chart 7 "objects or holds over 100,000", row
+-- 8 "unknown method, priority or classic", row 9 "a missing field, or byte 6 or 7, holds a nonzero byte", in this order; and
+-- Records: "5: presence u8, bits 0 to 7 for n320, n300, n200, n100, n50, misses, acc, passed", "The accuracy is either given with
+-- its f64 or absent".
+use mathlib.Core.List.{List}
+use mathlib.Core.Bool.{Bool, not, cond, _&&_, _||_}
+use Prim.Native.Nat.{ℕ}
+use lib.Dec.{eqb, ltb}
+use lib.Ieee.{binary64, ofBits}
+use lib.ListN.{length, getD}
+use Rattle.inspect.specs.Presence.{has}
+use Rattle.inspect.specs.Checks.{chartOver}
+use Rattle.inspect.specs.Answers.{Answer, unless}
+use Rattle.inspect.specs.declared.Accuracy.{Accuracy}
+use Rattle.inspect.specs.declared.Accuracy.the-variants.{Given, Absent}
+use Rattle.inspect.specs.declared.Chart.{Chart}
+use Rattle.inspect.specs.declared.Query.{Query}
+use Rattle.generate_laws.specs.Generate.{generateAnswer}
+use Rattle.records.specs.declared.Row.{Row}
+use Rattle.charts.specs.Charts.{noChart}
+
+-- a missing field, by the place value of its presence bit, that is not all zero bytes
+unfoldable pub leftOver : ℕ → ℕ → Bool → Bool
+leftOver presence place nonzero = not (has presence place) && nonzero
+
+-- check 9: by the bits of acc, so that a missing acc of -0.0 is found too
+unfoldable pub fieldsLeft : Row → Bool
+fieldsLeft row =
+    leftOver (row .presence) 1 (ltb 0 (row .n320))
+    || leftOver (row .presence) 2 (ltb 0 (row .n300))
+    || leftOver (row .presence) 4 (ltb 0 (row .n200))
+    || leftOver (row .presence) 8 (ltb 0 (row .n100))
+    || leftOver (row .presence) 16 (ltb 0 (row .n50))
+    || leftOver (row .presence) 32 (ltb 0 (row .misses))
+    || leftOver (row .presence) 64 (ltb 0 (row .acc))
+    || leftOver (row .presence) 128 (ltb 0 (row .passed))
+    || ltb 0 (row .zeros)
+
+-- check 8: methods 0 to 3, priorities 0 and 1, classic 0 and 1
+unfoldable pub unknownRow : Row → Bool
+unknownRow row = ltb 3 (row .method) || ltb 1 (row .priority) || ltb 1 (row .classic)
+
+-- Checks 7 to 9 of a row and the chart that it names: the number of the first that stops it, or 0.
+unfoldable pub rowStop : Row → Chart → ℕ
+rowStop row chart = cond (chartOver chart) 7 (cond (unknownRow row) 8 (cond (fieldsLeft row) 9 0))
+
+unfoldable pub accGiven : ℕ → ℕ → Accuracy
+accGiven presence bits = cond (has presence 64) (Given (ofBits binary64 bits)) Absent
+
+-- the query that a row states of its chart
+unfoldable pub queryOf : Row → Chart → Query
+queryOf row chart =
+    record {
+      chart = chart;
+      method = row .method;
+      priority = row .priority;
+      classic = eqb (row .classic) 1;
+      presence = row .presence;
+      n320 = row .n320;
+      n300 = row .n300;
+      n200 = row .n200;
+      n100 = row .n100;
+      n50 = row .n50;
+      misses = row .misses;
+      passed = row .passed;
+      acc = accGiven (row .presence) (row .acc);
+    }
+
+-- the answer of a row whose chart is found: what the direct call answers, unless a check stops it before
+unfoldable pub foundAnswer : Row → Chart → Answer
+foundAnswer row chart = unless (eqb (rowStop row chart) 0) (rowStop row chart) (generateAnswer (queryOf row chart))
+
+-- the answer of a row of a sheet with these charts
+unfoldable pub rowAnswer : Row → List Chart → Answer
+rowAnswer row charts = unless (ltb (row .chart) (length charts)) 6 (foundAnswer row (getD charts (row .chart) noChart))

@@ -1,0 +1,125 @@
+// A row of a sheet: its checks and its answer.
+ghost use mathlib.Core.Path.{_≡_};
+ghost use Prim.Native.Nat.{_<_, _≤_};
+ghost use lib.ListN.{length, take};
+ghost use Rattle.generate.specs.Generated.{generatedOf};
+ghost use Rattle.rows.specs.Rows.{leftOver, fieldsLeft, unknownRow, rowStop, accGiven, queryOf, foundAnswer, rowAnswer};
+use generate::Generated;
+use inspect::Accuracy;
+use inspect::Chart;
+use inspect::Query;
+use records::Row;
+
+// A missing field that is not all zero bytes.
+fn left_over(presence: u8, place: u8, nonzero: bool) -> bool
+    requires { ⌜ 0 < place ⌝ }
+    ensures { λ r. ⌜ r ≡ leftOver presence place nonzero ⌝ }
+{
+    if inspect::is_given(presence, place) {
+        false
+    } else {
+        nonzero
+    }
+}
+
+// Check 9.
+fn fields_left(row: Row) -> bool
+    ensures { λ r. ⌜ r ≡ fieldsLeft row ⌝ }
+{
+    let p = row.presence;
+    let n320 = left_over(p, 1, row.n320 > 0);
+    let n300 = left_over(p, 2, row.n300 > 0);
+    let n200 = left_over(p, 4, row.n200 > 0);
+    let n100 = left_over(p, 8, row.n100 > 0);
+    let n50 = left_over(p, 16, row.n50 > 0);
+    let misses = left_over(p, 32, row.misses > 0);
+    let acc = left_over(p, 64, row.acc > 0);
+    let passed = left_over(p, 128, row.passed > 0);
+    n320 | n300 | n200 | n100 | n50 | misses | acc | passed | (row.zeros > 0)
+}
+
+// Check 8.
+fn unknown_row(row: Row) -> bool
+    ensures { λ r. ⌜ r ≡ unknownRow row ⌝ }
+{
+    if row.method > 3 {
+        return true;
+    }
+    if row.priority > 1 {
+        return true;
+    }
+    row.classic > 1
+}
+
+// Checks 7 to 9 of a row and its chart: the first that stops it, or 0.
+fn row_stop(row: Row, chart: Chart) -> u32
+    ensures { λ r. ⌜ r ≡ rowStop row chart ⌝ }
+{
+    if inspect::chart_over(chart) {
+        return 7;
+    }
+    if unknown_row(row) {
+        return 8;
+    }
+    if fields_left(row) {
+        return 9;
+    }
+    0
+}
+
+fn acc_given(presence: u8, bits: u64) -> Accuracy
+    ensures { λ r. ⌜ r ≡ accGiven presence bits ⌝ }
+{
+    if inspect::is_given(presence, 64) {
+        Accuracy::Given(little_endian::f64_of(bits))
+    } else {
+        Accuracy::Absent
+    }
+}
+
+// The query of a row and its chart.
+fn query_of(row: Row, chart: Chart) -> Query
+    ensures { λ r. ⌜ r ≡ queryOf row chart ⌝ }
+{
+    let acc = acc_given(row.presence, row.acc);
+    Query {
+        chart,
+        method: row.method,
+        priority: row.priority,
+        classic: row.classic == 1,
+        presence: row.presence,
+        n320: row.n320,
+        n300: row.n300,
+        n200: row.n200,
+        n100: row.n100,
+        n50: row.n50,
+        misses: row.misses,
+        passed: row.passed,
+        acc,
+    }
+}
+
+// The answer of a row whose chart is found.
+fn found_answer(row: Row, chart: Chart) -> Generated
+    ensures { λ r. ⌜ generatedOf r ≡ foundAnswer row chart ⌝ }
+{
+    let stop = row_stop(row, chart);
+    if stop > 0 {
+        return Generated::Refused(stop);
+    }
+    let query = query_of(row, chart);
+    generate::generate(query)
+}
+
+// The answer of a row, the sheet's charts being the first n.
+pub fn row_answer(row: Row, charts: [Chart; 256], n: usize) -> Generated
+    requires { ⌜ (n ≤ 256) × (n ≤ length charts) ⌝ }
+    ensures { λ r. ⌜ generatedOf r ≡ rowAnswer row (take n charts) ⌝ }
+{
+    let index = row.chart as usize;
+    if index < n {
+        found_answer(row, charts::chart_in(charts, index))
+    } else {
+        Generated::Refused(6)
+    }
+}

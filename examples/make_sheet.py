@@ -1,0 +1,61 @@
+#!/usr/bin/env python3
+"""Writes a sheet to standard output: a sample of all four methods over two charts.
+
+    python3 examples/make_sheet.py > examples/sample.sheet
+    target/bin/sheet < examples/sample.sheet
+
+With --example it is document 01's example of two rows. Numbers are little-endian; a missing field is all zero bytes.
+"""
+
+import struct
+import sys
+
+IGNORE_ACCURACY, FAST, CLOSEST, NEAREST = range(4)
+BEST_CASE, WORST_CASE = range(2)
+
+# The fields that may be missing, in the order of their presence bits.
+FIELDS = ("n320", "n300", "n200", "n100", "n50", "misses", "acc", "passed")
+
+
+def query(chart, method, priority=BEST_CASE, classic=False, **given):
+    """The 44 bytes of a query: the chart's index, how to work it, and the fields that are given."""
+    unknown = given.keys() - set(FIELDS)
+    if unknown:
+        raise TypeError(f"no field {unknown}")
+    presence = sum(1 << bit for bit, name in enumerate(FIELDS) if name in given)
+    counts = [given.get(name, 0) for name in ("n320", "n300", "n200", "n100", "n50", "misses", "passed")]
+    return struct.pack("<HBBBBH7Id", chart, method, priority, classic, presence, 0, *counts, given.get("acc", 0.0))
+
+
+def sheet(charts, queries):
+    """The charts (objects, hold notes) and the queries, each section after its count."""
+    records = [struct.pack("<II", *chart) for chart in charts]
+    return b"".join([struct.pack("<I", len(records)), *records, struct.pack("<I", len(queries)), *queries])
+
+
+EXAMPLE = sheet([(20, 0)], [query(0, NEAREST, n320=0, n300=0, acc=1.0), query(0, NEAREST)])
+
+SAMPLE = sheet(
+    [(20, 0), (1204, 312)],
+    [
+        # The same play by three methods: 20 notes at 705 of 1,220 points.
+        query(0, FAST, acc=705 / 1220),
+        query(0, CLOSEST, acc=705 / 1220),
+        query(0, NEAREST, acc=705 / 1220),
+        # Without an accuracy: the best and the worst that two misses and three 100s leave.
+        query(0, IGNORE_ACCURACY, n100=3, misses=2),
+        query(0, IGNORE_ACCURACY, WORST_CASE, n100=3, misses=2),
+        # A longer chart, at 97.53 % with 12 misses, and the same play left after 800 objects.
+        query(1, NEAREST, n50=4, misses=12, acc=0.9753),
+        query(1, NEAREST, n50=4, misses=12, acc=0.9753, passed=800),
+        query(1, CLOSEST, classic=True, misses=12, acc=0.9753),
+        # Stopped rows: 14, as more is given than was hit, and 6, as there is no third chart.
+        query(0, NEAREST, n300=21, acc=0.9),
+        query(2, FAST, acc=0.9),
+    ],
+)
+
+if __name__ == "__main__":
+    if sys.argv[1:] not in ([], ["--example"]):
+        sys.exit("usage: make_sheet.py [--example]")
+    sys.stdout.buffer.write(EXAMPLE if len(sys.argv) > 1 else SAMPLE)

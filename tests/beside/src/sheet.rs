@@ -1,0 +1,158 @@
+//! Document 01's sheet: how its bytes lie, and what the call that works it must answer.
+
+use std::{iter, ops::Range};
+
+use crate::{
+    generate,
+    query::{Answer, Query},
+};
+
+pub const CHARTS: usize = 256;
+pub const QUERIES: usize = 1_024;
+
+/// Bytes of a query and of an answer.
+pub const ROW: usize = 44;
+pub const ANSWER: usize = 32;
+
+pub type Chart = (u32, u32);
+pub type Row = [u8; ROW];
+
+/// The bytes of the fields that may be missing, in the order of their presence bits.
+const FIELDS: [Range<usize>; 8] = [
+    8..12,
+    12..16,
+    16..20,
+    20..24,
+    24..28,
+    28..32,
+    36..44,
+    32..36,
+];
+
+/// The bytes of the fields that this presence leaves out.
+pub fn missing(presence: u8) -> impl Iterator<Item = Range<usize>> {
+    FIELDS
+        .into_iter()
+        .enumerate()
+        .filter(move |(bit, _)| presence & 1 << bit == 0)
+        .map(|(_, bytes)| bytes)
+}
+
+/// The row of a query whose chart has this index.
+pub fn row(index: usize, q: &Query) -> Row {
+    let mut row = [0; ROW];
+    row[..2].copy_from_slice(&(index as u16).to_le_bytes());
+    row[2..6].copy_from_slice(&[q.method, q.priority, q.classic.into(), q.presence]);
+
+    let [n320, n300, n200, n100, n50] = q.counts;
+    let numbers = [n320, n300, n200, n100, n50, q.misses, q.passed];
+
+    for (at, n) in (8..).step_by(4).zip(numbers) {
+        row[at..at + 4].copy_from_slice(&n.to_le_bytes());
+    }
+
+    row[36..].copy_from_slice(&q.acc.to_le_bytes());
+
+    for bytes in missing(q.presence) {
+        row[bytes].fill(0);
+    }
+
+    row
+}
+
+/// A whole sheet.
+pub fn bytes(charts: &[Chart], rows: &[Row]) -> Vec<u8> {
+    let mut bytes = (charts.len() as u32).to_le_bytes().to_vec();
+
+    for (n_objects, n_hold_notes) in charts {
+        bytes.extend(n_objects.to_le_bytes());
+        bytes.extend(n_hold_notes.to_le_bytes());
+    }
+
+    bytes.extend((rows.len() as u32).to_le_bytes());
+    bytes.extend(rows.as_flattened());
+
+    bytes
+}
+
+fn u32_at(bytes: &[u8], at: usize) -> u32 {
+    u32::from_le_bytes(bytes[at..at + 4].try_into().unwrap())
+}
+
+fn answer(row: &[u8], charts: &[u8]) -> Answer {
+    let index = u16::from_le_bytes([row[0], row[1]]);
+    let Some(chart) = charts.chunks_exact(8).nth(index.into()) else {
+        return Answer::refused(6);
+    };
+
+    let q = Query {
+        n_objects: u32_at(chart, 0),
+        n_hold_notes: u32_at(chart, 4),
+        method: row[2],
+        priority: row[3],
+        classic: row[4] == 1,
+        presence: row[5],
+        counts: std::array::from_fn(|i| u32_at(row, 8 + 4 * i)),
+        misses: u32_at(row, 28),
+        passed: u32_at(row, 32),
+        acc: f64::from_le_bytes(row[36..].try_into().unwrap()),
+    };
+
+    let nonzero = |bytes: Range<usize>| row[bytes].iter().any(|&byte| byte != 0);
+
+    if q.chart_over() {
+        Answer::refused(7)
+    } else if q.method().is_none() || q.priority > 1 || row[4] > 1 {
+        Answer::refused(8)
+    } else if nonzero(6..8) || missing(q.presence).any(nonzero) {
+        Answer::refused(9)
+    } else {
+        generate::answer(&q)
+    }
+}
+
+/// Takes the next bytes off the sheet.
+fn take<'a>(sheet: &mut &'a [u8], len: usize) -> Result<&'a [u8], u32> {
+    let (taken, rest) = sheet.split_at_checked(len).ok_or(1_u32)?;
+    *sheet = rest;
+    Ok(taken)
+}
+
+/// Takes a section's count, which is judged first, and its records.
+fn section<'a>(
+    sheet: &mut &'a [u8],
+    record: usize,
+    most: usize,
+    over: u32,
+) -> Result<&'a [u8], u32> {
+    match u32_at(take(sheet, 4)?, 0) as usize {
+        count if count > most => Err(over),
+        count => take(sheet, record * count),
+    }
+}
+
+/// Every row's answer, or the number, 1 to 4, that refuses the sheet.
+pub fn answers(mut sheet: &[u8]) -> Result<Vec<Answer>, u32> {
+    let charts = section(&mut sheet, 8, CHARTS, 2)?;
+    let rows = section(&mut sheet, ROW, QUERIES, 3)?;
+
+    if !sheet.is_empty() {
+        return Err(4);
+    }
+
+    let answers = rows.chunks_exact(ROW).map(|row| answer(row, charts));
+    Ok(answers.collect())
+}
+
+/// The bytes of the answers.
+pub fn written(answers: &[Answer]) -> Vec<u8> {
+    let mut bytes = Vec::with_capacity(ANSWER * answers.len());
+
+    for answer in answers {
+        for n in iter::once(answer.status).chain(answer.values) {
+            bytes.extend(n.to_le_bytes());
+        }
+    }
+
+    bytes
+}

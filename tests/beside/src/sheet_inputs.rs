@@ -1,0 +1,294 @@
+//! Sheets: document 01's example, a fixed list at the limits, and random ones, many of them damaged.
+
+use crate::{
+    inputs::{self, Rng},
+    plays,
+    query::{CHART, Method, Query},
+    sheet::{self, CHARTS, Chart, QUERIES, ROW, Row},
+};
+
+/// The most hits for which the Rust's Closest searches with three or more missing.
+const SEARCHED: u32 = 300;
+
+const OVER_CHARTS: [usize; 6] = [257, 258, 512, 65_536, 1 << 31, u32::MAX as usize];
+const OVER_QUERIES: [usize; 6] = [1_025, 1_026, 2_048, 65_536, 1 << 31, u32::MAX as usize];
+
+fn put_count(bytes: &mut [u8], at: usize, n: usize) {
+    bytes[at..at + 4].copy_from_slice(&(n as u32).to_le_bytes());
+}
+
+/// Document 01's two-row example: play E by Nearest, and Nearest with presence 0.
+pub fn example() -> Vec<u8> {
+    let e = plays::of(Method::Nearest)
+        .into_iter()
+        .find(|play| play.label == 'E')
+        .unwrap()
+        .query;
+    let bare = Query { presence: 0, ..e };
+
+    sheet::bytes(&[(20, 0)], &[sheet::row(0, &e), sheet::row(0, &bare)])
+}
+
+/// The sheets that every run takes.
+pub fn fixed(visit: &mut dyn FnMut(&[u8])) {
+    let mut rng = Rng::new(1);
+    let rng = &mut rng;
+
+    cuts(rng, visit);
+    limits(rng, visit);
+    nonzero(rng, visit);
+    presences(rng, visit);
+    documented(visit);
+}
+
+/// A row for each method, over two charts.
+fn four(rng: &mut Rng, charts: [Chart; 2]) -> Vec<Row> {
+    let row = |method: Method| {
+        let index = usize::from(method.code() % 2);
+        sheet::row(index, &query(rng, charts[index], method))
+    };
+
+    Method::ALL.map(row).to_vec()
+}
+
+/// A small sheet, with more bytes after it and cut at every byte; the same where a count is over
+/// its limit.
+fn cuts(rng: &mut Rng, visit: &mut dyn FnMut(&[u8])) {
+    let charts = [(20, 0), (5, 3)];
+    let mut bytes = sheet::bytes(&charts, &four(rng, charts));
+    bytes.extend([0; 2 * ROW]);
+
+    let mut every_cut = |bytes: &[u8]| (0..=bytes.len()).for_each(|len| visit(&bytes[..len]));
+    every_cut(&bytes);
+
+    for (at, counts) in [(0, OVER_CHARTS), (4 + 8 * charts.len(), OVER_QUERIES)] {
+        for count in counts {
+            let mut bytes = bytes.clone();
+            put_count(&mut bytes, at, count);
+            every_cut(&bytes);
+        }
+    }
+}
+
+/// Sheets as large as allowed and larger, with all their bytes or one less or more; the last are
+/// longer than the program reads.
+fn limits(rng: &mut Rng, visit: &mut dyn FnMut(&[u8])) {
+    let charts = [(20, 0), (5, 3)];
+    let rows = four(rng, charts);
+
+    for (n_charts, n_rows) in [
+        (0, 0),
+        (0, 1),
+        (1, 0),
+        (CHARTS, 0),
+        (CHARTS + 1, 0),
+        (0, QUERIES),
+        (0, QUERIES + 1),
+        (CHARTS, QUERIES),
+        (CHARTS + 1, QUERIES),
+        (CHARTS, QUERIES + 1),
+    ] {
+        let charts: Vec<_> = charts.into_iter().cycle().take(n_charts).collect();
+        let rows: Vec<_> = rows.iter().copied().cycle().take(n_rows).collect();
+        let mut bytes = sheet::bytes(&charts, &rows);
+        visit(&bytes[..bytes.len() - 1]);
+        visit(&bytes);
+
+        for more in [1, 1, ROW, 100_000] {
+            bytes.extend(vec![0; more]);
+            visit(&bytes);
+        }
+    }
+}
+
+/// Rows with one nonzero byte where zeros belong, for no field given and for all but the byte's.
+fn nonzero(rng: &mut Rng, visit: &mut dyn FnMut(&[u8])) {
+    let chart = (20, 0);
+
+    for method in Method::ALL {
+        let mut rows = Vec::new();
+
+        for (at, byte) in (6..ROW).flat_map(|at| [(at, 1), (at, 0x80)]) {
+            let mut others = (0..8).map(|bit| !(1 << bit));
+            let others = others.find(|&others| sheet::missing(others).any(|m| m.contains(&at)));
+
+            for presence in [0, others.unwrap_or(u8::MAX)] {
+                let q = query(rng, chart, method);
+                let mut row = sheet::row(0, &Query { presence, ..q });
+                row[at] = byte;
+                rows.push(row);
+            }
+        }
+
+        visit(&sheet::bytes(&[chart], &rows));
+    }
+}
+
+/// Full sheets of every presence with every method, one for each priority with and without classic.
+fn presences(rng: &mut Rng, visit: &mut dyn FnMut(&[u8])) {
+    let charts: Vec<_> = (0..CHARTS).map(|_| inputs::chart(rng, 30)).collect();
+
+    for priority_and_classic in 0..4 {
+        let mut row = |i: usize| loop {
+            let (presence, method) = (i % CHARTS, Method::ALL[i / CHARTS]);
+            let turn = presence as u64 % 32 + 32 * priority_and_classic;
+            let q = inputs::query_over(rng, charts[presence], method, turn);
+
+            if usize::from(q.presence) == presence {
+                return sheet::row(presence, &q);
+            }
+        };
+        let rows: Vec<_> = (0..QUERIES).map(&mut row).collect();
+
+        visit(&sheet::bytes(&charts, &rows));
+    }
+}
+
+/// Document 01's plays, each with a chart of its own.
+fn documented(visit: &mut dyn FnMut(&[u8])) {
+    let plays = Method::ALL.into_iter().flat_map(plays::of);
+    let queries: Vec<_> = plays.map(|play| play.query).collect();
+    let charts: Vec<_> = queries
+        .iter()
+        .map(|q| (q.n_objects, q.n_hold_notes))
+        .collect();
+    let rows: Vec<_> = queries
+        .iter()
+        .enumerate()
+        .map(|(i, q)| sheet::row(i, q))
+        .collect();
+
+    visit(&sheet::bytes(&charts, &rows));
+}
+
+/// A chart: small, so large that Closest's search is long, at the limit, or over it.
+fn chart(rng: &mut Rng) -> Chart {
+    match rng.upto(15) {
+        0 => rng.pick(&[
+            (CHART + 1, 0),
+            (0, CHART + 1),
+            (CHART + 1, CHART + 1),
+            (u32::MAX, u32::MAX),
+        ]),
+        1 => inputs::chart(rng, CHART + 1),
+        2 => inputs::chart(rng, CHART),
+        3..=5 => inputs::chart(rng, SEARCHED),
+        _ => inputs::chart(rng, 30),
+    }
+}
+
+/// A query over this chart, or any chart if it is over the limit.
+fn query(rng: &mut Rng, chart: Chart, method: Method) -> Query {
+    let over = chart.0 > CHART || chart.1 > CHART;
+    let chart = if over { (20, 5) } else { chart };
+
+    loop {
+        let turn = rng.next();
+        let q = inputs::query_over(rng, chart, method, turn);
+        let short = q.missing() < 3 || q.total_hits() <= SEARCHED;
+
+        if method != Method::Closest || short {
+            return q;
+        }
+    }
+}
+
+/// A random row; one in eight breaks a check of the direct call, one in four has damaged bytes.
+fn row(rng: &mut Rng, charts: &[Chart]) -> Row {
+    let index = if charts.is_empty() || rng.one_in(32) {
+        charts.len() + rng.upto(1) as usize
+    } else {
+        rng.upto(charts.len() as u32 - 1) as usize
+    };
+
+    let method = rng.pick(&Method::ALL);
+    let chart = charts.get(index).copied().unwrap_or((5, 0));
+    let mut q = query(rng, chart, method);
+
+    if rng.one_in(8) {
+        inputs::spoil(rng, &mut q);
+    }
+
+    let mut row = sheet::row(index, &q);
+
+    if rng.one_in(4) {
+        damage(rng, &mut row);
+    }
+
+    row
+}
+
+/// Breaks what the checks 6, 8 and 9 ask for, often in several places.
+fn damage(rng: &mut Rng, row: &mut Row) {
+    if rng.one_in(4) {
+        row[1] = rng.pick(&[1, 2, 255]);
+    }
+
+    for (code, first_unknown) in [(2, 4), (3, 2), (4, 2)] {
+        if rng.one_in(6) {
+            row[code] = rng.pick(&[first_unknown, first_unknown + 1, 128, 255]);
+        }
+    }
+
+    if rng.one_in(4) {
+        row[rng.pick(&[6, 7])] = 1 << rng.upto(7);
+    }
+
+    let missing: Vec<_> = sheet::missing(row[5]).flatten().collect();
+
+    if !missing.is_empty() && rng.one_in(2) {
+        row[rng.pick(&missing)] = 1 << rng.upto(7);
+    }
+}
+
+/// A full sheet, whose rows have every method and every status.
+pub fn full(rng: &mut Rng) -> Vec<u8> {
+    let charts: Vec<_> = (0..CHARTS).map(|_| chart(rng)).collect();
+    let rows: Vec<_> = (0..QUERIES).map(|_| row(rng, &charts)).collect();
+
+    sheet::bytes(&charts, &rows)
+}
+
+/// A random sheet; one in 400 is full, and one in three is damaged as a whole.
+pub fn random(rng: &mut Rng) -> Vec<u8> {
+    let (charts, rows) = match rng.upto(399) {
+        0 => (CHARTS, QUERIES),
+        1 => (rng.upto(256) as usize, 1_000 + rng.upto(24) as usize),
+        2..=20 => (rng.upto(256) as usize, rng.upto(100) as usize),
+        _ => (rng.upto(4) as usize, rng.upto(10) as usize),
+    };
+
+    let charts: Vec<_> = (0..charts).map(|_| chart(rng)).collect();
+    let rows: Vec<_> = (0..rows).map(|_| row(rng, &charts)).collect();
+    let mut bytes = sheet::bytes(&charts, &rows);
+
+    if rng.one_in(3) {
+        spoil(rng, &mut bytes, charts.len(), rows.len());
+    }
+
+    bytes
+}
+
+/// Damages a sheet as a whole.
+fn spoil(rng: &mut Rng, bytes: &mut Vec<u8>, charts: usize, rows: usize) {
+    let queries = 4 + 8 * charts;
+
+    match rng.upto(6) {
+        0 => put_count(bytes, 0, rng.pick(&OVER_CHARTS)),
+        1 => put_count(bytes, queries, rng.pick(&OVER_QUERIES)),
+        2 => put_count(bytes, 0, rng.pick(&[charts + 1, charts.saturating_sub(1)])),
+        3 => put_count(
+            bytes,
+            queries,
+            rng.pick(&[rows + 1, rows.saturating_sub(1)]),
+        ),
+        4 => bytes.extend((0..=rng.upto(90)).map(|_| rng.next() as u8)),
+        // Too few bytes for a row, so that no long search comes about.
+        5 => *bytes = (0..rng.upto(51)).map(|_| rng.next() as u8 & 1).collect(),
+        _ => {}
+    }
+
+    if rng.one_in(2) {
+        bytes.truncate(rng.upto(bytes.len() as u32) as usize);
+    }
+}

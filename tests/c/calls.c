@@ -1,0 +1,255 @@
+/* calls LIST: checks what the library's calls answer and what they leave in the output: on the fixed list of the Rust's answers
+ * (crates/replay/stdin; tests/beside/src/list.rs tells its format), on document 01's plays, and past each limit.
+ * Prints 'calls: N checked, D differ'; ends with 1 if any differs and with 2 if it cannot read the list. */
+#include <inttypes.h>
+#include <math.h>
+#include <stdio.h>
+#include <string.h>
+
+#include "nuqsillay.h"
+
+enum { IGNORE_ACC, FAST, CLOSEST, NEAREST };
+enum { N320 = 1, N300 = 2, N200 = 4, N100 = 8, N50 = 16, MISSES = 32, ACC = 64, PASSED = 128 };
+enum { RECORD = 80, PLACES = 9 };
+
+/* What stands in an output before a call. */
+#define BEFORE 0x5E171CEDu
+/* A tried that document 01 does not tell. */
+#define ANY UINT32_MAX
+
+struct query {
+    uint32_t n_objects, n_hold_notes;
+    uint8_t method, priority;
+    bool classic;
+    uint8_t presence;
+    uint32_t n[5], misses, passed;
+    double acc;
+};
+
+static unsigned checked, differ;
+
+static void check(bool right, const char *what, long number)
+{
+    checked++;
+    if (!right) {
+        differ++;
+        printf("calls: %s %ld differs\n", what, number);
+    }
+}
+
+static uint32_t generate(const struct query *q, uint32_t *out, size_t len)
+{
+    return nuqsillay_generate(q->n_objects, q->n_hold_notes, q->method, q->priority, q->classic, q->presence, q->n[0], q->n[1],
+                              q->n[2], q->n[3], q->n[4], q->misses, q->passed, q->acc, out, len);
+}
+
+static uint32_t target(const struct query *q, uint32_t *out, size_t len)
+{
+    return nuqsillay_target(q->n_objects, q->n_hold_notes, q->classic, q->presence, q->misses, q->passed, q->acc, out, len);
+}
+
+/* A call that writes `places` numbers, with an output of each length: 5 where it is too short, else the status and values. */
+static void check_outputs(uint32_t (*call)(const struct query *, uint32_t *, size_t), const struct query *q, size_t places,
+                          uint32_t status, const uint32_t *values, const char *what, long number)
+{
+    for (size_t len = 0; len <= PLACES; len++) {
+        uint32_t out[PLACES + 1], right[PLACES + 1];
+        for (size_t i = 0; i <= PLACES; i++)
+            out[i] = right[i] = BEFORE;
+
+        uint32_t expected = len < places ? 5 : status;
+        uint32_t answer = call(q, out, len);
+        for (size_t i = 0; expected == 0 && i < places; i++)
+            right[i] = values[i] == ANY ? out[i] : values[i];
+        check(answer == expected && memcmp(out, right, sizeof out) == 0, what, number);
+    }
+}
+
+static void check_accuracy(const uint32_t *n, bool classic, uint32_t status, uint64_t bits, const char *what, long number)
+{
+    double value = 0;
+    uint64_t out = BEFORE;
+    memcpy(&value, &out, sizeof value);
+    uint32_t answer = nuqsillay_accuracy(n[0], n[1], n[2], n[3], n[4], n[5], classic, &value);
+    memcpy(&out, &value, sizeof out);
+    check(answer == status && out == (status == 0 ? bits : BEFORE), what, number);
+}
+
+static uint32_t u32_at(const uint8_t *s)
+{
+    return s[0] | (uint32_t)s[1] << 8 | (uint32_t)s[2] << 16 | (uint32_t)s[3] << 24;
+}
+
+static uint64_t u64_at(const uint8_t *s)
+{
+    return u32_at(s) | (uint64_t)u32_at(s + 4) << 32;
+}
+
+static void check_record(const uint8_t *s, long number)
+{
+    uint8_t kind = s[0];
+    uint64_t acc = u64_at(s + 40);
+    uint32_t six[6], status = u32_at(s + 48), values[7];
+    struct query q = {
+        .n_objects = u32_at(s + 4), .n_hold_notes = u32_at(s + 8), .method = kind - 2, .priority = s[1],
+        .classic = s[2], .presence = s[3], .misses = u32_at(s + 32), .passed = u32_at(s + 36),
+    };
+    memcpy(&q.acc, &acc, sizeof q.acc);
+    for (int i = 0; i < 6; i++)
+        six[i] = u32_at(s + 12 + 4 * i);
+    memcpy(q.n, six, sizeof q.n);
+    for (int i = 0; i < 7; i++)
+        values[i] = u32_at(s + 52 + 4 * i);
+
+    if (kind == 0) {
+        check_accuracy(six, q.classic, status, u64_at(s + 52), "record", number);
+    } else if (kind == 1) {
+        /* The list leaves out the remaining hits. */
+        uint32_t four[4] = {values[0], values[1], values[0] - values[1], values[2]};
+        check_outputs(target, &q, 4, status, four, "record", number);
+    } else {
+        check_outputs(generate, &q, 7, status, values, "record", number);
+    }
+}
+
+static bool check_list(const char *path)
+{
+    static uint8_t list[1 << 20];
+    FILE *file = fopen(path, "rb");
+    if (file == NULL)
+        return false;
+    size_t len = fread(list, 1, sizeof list, file);
+    fclose(file);
+    if (len == 0 || len == sizeof list || len % RECORD != 0)
+        return false;
+
+    for (size_t i = 0; i < len / RECORD; i++)
+        check_record(list + RECORD * i, (long)i);
+    return true;
+}
+
+/* A play of document 01: a chart without holds, the counts that presence names, and the answer. */
+struct play {
+    char label;
+    uint8_t method, priority;
+    bool classic;
+    uint32_t n_objects;
+    uint8_t presence;
+    uint32_t n[5], misses;
+    double acc;
+    uint32_t status, values[7];
+};
+
+#define LAST_THREE (N200 | N100 | N50)
+#define FIRST_THREE (N320 | N300 | N200)
+
+static const struct play plays[] = {
+    {'A', CLOSEST, 0, false, 20, ACC | LAST_THREE, {0}, 0, 1208.0 / 1220, 0, {8, 12, 0, 0, 0, 0, 0}},
+    {'A', NEAREST, 0, false, 20, ACC | LAST_THREE, {0}, 0, 1208.0 / 1220, 0, {8, 12, 0, 0, 0, 0, 1}},
+    {'B', CLOSEST, 0, true, 5, ACC | LAST_THREE, {0}, 0, 1, 0, {2, 3, 0, 0, 0, 0, 0}},
+    {'B', NEAREST, 0, true, 5, ACC | LAST_THREE, {0}, 0, 1, 0, {5, 0, 0, 0, 0, 0, 1}},
+    {'C', CLOSEST, 0, false, 20, ACC, {0}, 0, 705.0 / 1220, 0, {9, 0, 0, 5, 6, 0, 0}},
+    {'C', NEAREST, 0, false, 20, ACC, {0}, 0, 705.0 / 1220, 0, {5, 0, 5, 10, 0, 0, ANY}},
+    {'D', CLOSEST, 0, false, 5, ACC | N200, {0, 0, 9, 0, 0}, 0, 1, 0, {0, 0, 9, 0, 5, 0, 0}},
+    {'D', NEAREST, 0, false, 5, ACC | N200, {0, 0, 9, 0, 0}, 0, 1, 14, {0}},
+    {'E', CLOSEST, 0, false, 20, ACC | N320 | N300, {0}, 0, 1, 0, {0, 0, 0, 0, 20, 0, 0}},
+    {'E', NEAREST, 0, false, 20, ACC | N320 | N300, {0}, 0, 1, 0, {0, 0, 20, 0, 0, 0, 3}},
+    {'F', FAST, 0, false, 10, ACC, {0}, 0, 0.5, 0, {4, 0, 0, 0, 6, 0, 0}},
+    {'G', IGNORE_ACC, 0, false, 10, MISSES | N100, {0, 0, 0, 3, 0}, 2, 0, 0, {5, 0, 0, 3, 0, 2, 0}},
+    {'G', IGNORE_ACC, 1, false, 10, MISSES | N100, {0, 0, 0, 3, 0}, 2, 0, 0, {0, 0, 0, 3, 5, 2, 0}},
+    {'H', FAST, 0, false, 4, ACC | MISSES, {0}, 9, 1, 0, {0, 0, 0, 0, 0, 4, 0}},
+    {'H', CLOSEST, 0, false, 4, ACC | MISSES, {0}, 9, 1, 0, {0, 0, 0, 0, 0, 4, 0}},
+    {'H', NEAREST, 0, false, 4, ACC | MISSES, {0}, 9, 1, 0, {0, 0, 0, 0, 0, 4, 1}},
+    {'I', CLOSEST, 0, false, 5, ACC | FIRST_THREE, {3, 3, 0, 0, 0}, 0, 1, 12, {0}},
+    {'I', CLOSEST, 0, false, 5, ACC | FIRST_THREE, {3, 2, 0, 0, 0}, 0, 1, 0, {3, 2, 0, 0, 0, 0, 0}},
+    {'J', IGNORE_ACC, 0, false, 100000, 0, {0}, 0, 0, 0, {100000, 0, 0, 0, 0, 0, 0}},
+    {'J', IGNORE_ACC, 0, false, 100001, 0, {0}, 0, 0, 7, {0}},
+    {'J', IGNORE_ACC, 0, false, 20, N50, {0, 0, 0, 0, 1000000}, 0, 0, 0, {0, 0, 0, 0, 20, 0, 0}},
+    {'J', IGNORE_ACC, 0, false, 20, N50, {0, 0, 0, 0, 1000001}, 0, 0, 10, {0}},
+    {'K', FAST, 0, false, 20, ACC, {0}, 0, 1, 0, {20, 0, 0, 0, 0, 0, 0}},
+    {'K', FAST, 0, false, 20, ACC, {0}, 0, 1 + 0x1p-52, 11, {0}},
+};
+
+static struct query query_of(const struct play *p)
+{
+    struct query q = {
+        .n_objects = p->n_objects, .method = p->method, .priority = p->priority, .classic = p->classic,
+        .presence = p->presence, .misses = p->misses, .acc = p->acc,
+    };
+    memcpy(q.n, p->n, sizeof q.n);
+    return q;
+}
+
+static void check_plays(void)
+{
+    for (size_t i = 0; i < sizeof plays / sizeof *plays; i++) {
+        struct query q = query_of(&plays[i]);
+        char what[] = {'p', 'l', 'a', 'y', ' ', plays[i].label, '\0'};
+        check_outputs(generate, &q, 7, plays[i].status, plays[i].values, what, (long)i);
+    }
+}
+
+/* Each later check broken after the earlier ones, so that the earlier one must answer. */
+static void check_order(void)
+{
+    const uint32_t nothing[7] = {0};
+    struct query q = {.n_objects = 5, .method = NEAREST, .presence = FIRST_THREE, .n = {3, 3, 0, 0, 0}};
+    check_outputs(generate, &q, 7, 13, nothing, "order", 13);
+    q.presence |= ACC;
+    check_outputs(generate, &q, 7, 14, nothing, "order", 14);
+    q.method = CLOSEST;
+    check_outputs(generate, &q, 7, 12, nothing, "order", 12);
+
+    const double outside[] = {NAN, -NAN, INFINITY, -INFINITY, -0x1p-1074, 1 + 0x1p-52};
+    for (size_t i = 0; i < sizeof outside / sizeof *outside; i++) {
+        q.acc = outside[i];
+        check_outputs(generate, &q, 7, 11, nothing, "acc", (long)i);
+        check_outputs(target, &q, 4, 11, nothing, "acc of target", (long)i);
+    }
+
+    q.n[1] = 1000001;
+    check_outputs(generate, &q, 7, 10, nothing, "order", 10);
+    q.priority = 2;
+    check_outputs(generate, &q, 7, 8, nothing, "order", 8);
+    q.priority = 0;
+    for (int method = 4; method <= UINT8_MAX; method++) {
+        q.method = (uint8_t)method;
+        check_outputs(generate, &q, 7, 8, nothing, "method", method);
+    }
+    q.n_hold_notes = 100001;
+    check_outputs(generate, &q, 7, 7, nothing, "order", 7);
+}
+
+/* Numbers in missing fields are not looked at; -0.0 is 0; hold notes count in full for a shortened play. */
+static void check_fields(void)
+{
+    struct query q = {
+        .n_objects = 20, .method = FAST, .n = {ANY, ANY, ANY, ANY, ANY}, .misses = ANY, .passed = 3, .acc = NAN,
+    };
+    check_outputs(generate, &q, 7, 0, (uint32_t[]){20, 0, 0, 0, 0, 0, 0}, "missing fields", 0);
+
+    struct query zero = {.n_objects = 20, .method = NEAREST, .presence = ACC, .acc = -0.0};
+    check_outputs(generate, &zero, 7, 0, (uint32_t[]){0, 0, 0, 0, 20, 0, ANY}, "acc", 0);
+    check_outputs(target, &zero, 4, 0, (uint32_t[]){20, 0, 20, 0}, "acc of target", 0);
+
+    struct query holds = {.n_objects = 20, .n_hold_notes = 7, .presence = PASSED | MISSES, .passed = 5, .misses = 2, .acc = 1};
+    check_outputs(generate, &holds, 7, 0, (uint32_t[]){10, 0, 0, 0, 0, 2, 0}, "holds", 0);
+    check_outputs(target, &holds, 4, 0, (uint32_t[]){12, 2, 10, 732}, "holds of target", 0);
+    holds.classic = true;
+    check_outputs(generate, &holds, 7, 0, (uint32_t[]){3, 0, 0, 0, 0, 2, 0}, "holds", 1);
+    check_outputs(target, &holds, 4, 0, (uint32_t[]){5, 2, 3, 300}, "holds of target", 1);
+}
+
+int main(int argc, char **argv)
+{
+    if (argc != 2 || !check_list(argv[1])) {
+        fputs("calls: no list of records of 80 bytes\n", stderr);
+        return 2;
+    }
+    check_plays();
+    check_order();
+    check_fields();
+
+    printf("calls: %u checked, %u differ\n", checked, differ);
+    return differ != 0;
+}

@@ -1,0 +1,208 @@
+/* sheets: checks what the library's sheet call answers and what it leaves in the output: document 01's example, a row for each
+ * status, outputs of every length, sheets cut at every byte, and counts past their limits.
+ * Prints 'sheets: N checked, D differ'; ends with 1 if any differs. */
+#include <math.h>
+#include <stdio.h>
+#include <string.h>
+
+#include "nuqsillay.h"
+
+enum { IGNORE_ACC, FAST, CLOSEST, NEAREST };
+enum { N320 = 1, N300 = 2, N200 = 4, MISSES = 32, ACC = 64 };
+enum { COUNT = 4, CHART = 8, QUERY = 44, ANSWER = 32, MOST = 47112, ROOM = 64 };
+
+/* What stands in an output before a call. */
+enum { BEFORE = 0xA5 };
+
+struct query {
+    uint16_t chart;
+    uint8_t method, priority, classic, presence;
+    uint16_t zero;
+    uint32_t n[5], misses;
+    double acc;
+};
+
+/* A sheet on its way, with room for more than the most that is accepted. */
+struct sheet {
+    uint8_t bytes[MOST + ROOM];
+    size_t len;
+};
+
+static unsigned checked, differ;
+
+static void check(bool right, const char *what, size_t number)
+{
+    checked++;
+    if (!right) {
+        differ++;
+        printf("sheets: %s %zu differs\n", what, number);
+    }
+}
+
+static void put(struct sheet *s, uint64_t n, int bytes)
+{
+    for (int i = 0; i < bytes; i++)
+        s->bytes[s->len++] = (uint8_t)(n >> 8 * i);
+}
+
+static void put_charts(struct sheet *s, uint32_t count, const uint32_t (*charts)[2])
+{
+    put(s, count, 4);
+    for (uint32_t i = 0; i < count; i++) {
+        put(s, charts[i][0], 4);
+        put(s, charts[i][1], 4);
+    }
+}
+
+static void put_query(struct sheet *s, const struct query *q)
+{
+    uint64_t acc;
+    memcpy(&acc, &q->acc, sizeof acc);
+    put(s, q->chart, 2);
+    put(s, q->method, 1);
+    put(s, q->priority, 1);
+    put(s, q->classic, 1);
+    put(s, q->presence, 1);
+    put(s, q->zero, 2);
+    for (int i = 0; i < 5; i++)
+        put(s, q->n[i], 4);
+    put(s, q->misses, 4);
+    put(s, 0, 4);
+    put(s, acc, 8);
+}
+
+/* Works the sheet's first bytes with an output of so many; refused or not, all of the memory must be as expected. */
+static void check_work(const struct sheet *s, size_t sheet_len, size_t out_len, uint32_t status, const uint8_t *answers,
+                       size_t answers_len, const char *what, size_t number)
+{
+    static uint8_t out[1024 * ANSWER + ROOM], right[sizeof out];
+    memset(out, BEFORE, sizeof out);
+    memset(right, BEFORE, sizeof right);
+    memcpy(right, answers, answers_len);
+    uint32_t answer = nuqsillay_work_sheet(s->bytes, sheet_len, out, out_len);
+    check(answer == status && memcmp(out, right, sizeof out) == 0, what, number);
+}
+
+static void check_refused(const struct sheet *s, size_t sheet_len, size_t out_len, uint32_t status, const char *what)
+{
+    check_work(s, sheet_len, out_len, status, s->bytes, 0, what, sheet_len);
+}
+
+/* A whole sheet: its answers with outputs of every length, and every cut of it. */
+static void check_sheet(struct sheet *s, const uint32_t (*rows)[8], size_t count, const char *what)
+{
+    static struct sheet answers;
+    answers.len = 0;
+    for (size_t i = 0; i < count; i++)
+        for (int field = 0; field < 8; field++)
+            put(&answers, rows[i][field], 4);
+
+    for (size_t len = 0; len < answers.len; len++)
+        check_refused(s, s->len, len, 5, what);
+    for (size_t len = answers.len; len <= answers.len + ROOM; len++)
+        check_work(s, s->len, len, 0, answers.bytes, answers.len, what, len);
+
+    for (size_t len = 0; len < s->len; len++)
+        check_refused(s, len, answers.len, 1, what);
+    /* More bytes are 4 even where the output is too short. */
+    check_refused(s, s->len + 1, answers.len, 4, what);
+    check_refused(s, s->len + QUERY, 0, 4, what);
+}
+
+static void check_example(void)
+{
+    static struct sheet s;
+    const uint32_t charts[1][2] = {{20, 0}};
+    const struct query e = {.method = NEAREST, .presence = N320 | N300 | ACC, .acc = 1};
+    const struct query bare = {.method = NEAREST};
+    put_charts(&s, 1, charts);
+    put(&s, 2, 4);
+    put_query(&s, &e);
+    put_query(&s, &bare);
+    check_sheet(&s, (const uint32_t[2][8]){{0, 0, 0, 20, 0, 0, 0, 3}, {13}}, 2, "example");
+}
+
+/* A row for each status. Each is stopped by the checks after its own as well, as far as one row can be. */
+static void check_statuses(void)
+{
+    static struct sheet s;
+    const uint32_t charts[3][2] = {{5, 0}, {100001, 0}, {0, 100001}};
+    const uint8_t first_three = N320 | N300 | N200;
+    const struct query rows[] = {
+        {.chart = 3, .method = 4, .zero = 1, .presence = N320, .n = {1000001}},
+        {.chart = 65535, .method = 4, .zero = 1, .presence = N320, .n = {1000001}},
+        {.chart = 1, .method = 4, .zero = 1, .presence = N320, .n = {1000001}},
+        {.chart = 2, .classic = 1},
+        {.method = 4, .zero = 1, .presence = N320, .n = {1000001}},
+        {.priority = 2, .zero = 1},
+        {.classic = 2, .zero = 1},
+        {.zero = 1, .presence = N320, .n = {1000001}},
+        {.zero = 0x100},
+        {.presence = N320, .n = {0, 1000001}},
+        {.misses = 1},
+        {.acc = -0.0},
+        {.presence = N320 | ACC, .n = {1000001}, .acc = NAN},
+        {.presence = MISSES | ACC, .misses = 1000001, .acc = 2},
+        {.method = IGNORE_ACC, .presence = ACC, .acc = NAN},
+        {.method = CLOSEST, .presence = first_three | ACC, .n = {3, 3}, .acc = 1 + 0x1p-52},
+        {.method = CLOSEST, .presence = first_three | ACC, .n = {3, 3}, .acc = 1},
+        {.method = NEAREST, .presence = first_three, .n = {3, 3}},
+        {.method = NEAREST, .presence = first_three | ACC, .n = {3, 3}, .acc = 1},
+        {.method = CLOSEST, .presence = first_three | ACC, .n = {3, 2}, .acc = 1},
+        {.method = FAST, .presence = MISSES | ACC, .misses = 9, .acc = 1},
+    };
+    const size_t count = sizeof rows / sizeof *rows;
+    put_charts(&s, 3, charts);
+    put(&s, count, 4);
+    for (size_t i = 0; i < count; i++)
+        put_query(&s, &rows[i]);
+
+    check_sheet(&s, (const uint32_t[][8]){
+        {6}, {6}, {7}, {7}, {8}, {8}, {8}, {9}, {9}, {9}, {9}, {9}, {10}, {10}, {11}, {11}, {12}, {13}, {14},
+        {0, 3, 2, 0, 0, 0, 0, 0}, {0, 0, 0, 0, 0, 0, 5, 0},
+    }, count, "statuses");
+}
+
+/* Each count at its limit and past it, with its records there or missing. */
+static void check_limits(void)
+{
+    static struct sheet s;
+    put(&s, 0, 4);
+    put(&s, 0, 4);
+    check_work(&s, s.len, 0, 0, s.bytes, 0, "empty sheet", 0);
+    check_refused(&s, s.len + 1, 0, 4, "empty sheet");
+
+    /* 1,024 queries of zero bytes: IgnoreAccuracy on the first chart with nothing given. */
+    static struct sheet answers;
+    memset(&s, 0, sizeof s);
+    put(&s, 256, 4);
+    put(&s, 7, 4);
+    s.len = COUNT + 256 * CHART;
+    put(&s, 1024, 4);
+    for (answers.len = 0; answers.len < 1024 * ANSWER; answers.len += ANSWER)
+        answers.bytes[answers.len + 4] = 7;
+    check_work(&s, MOST, answers.len, 0, answers.bytes, answers.len, "full sheet", MOST);
+    check_refused(&s, MOST, answers.len - 1, 5, "full sheet");
+    check_refused(&s, MOST - 1, answers.len, 1, "full sheet");
+    check_refused(&s, MOST + 1, answers.len, 4, "full sheet");
+
+    s.len = COUNT + 256 * CHART;
+    put(&s, 1025, 4);
+    for (size_t len = s.len; len <= MOST + QUERY; len += QUERY)
+        check_refused(&s, len, 0, 3, "1,025 queries");
+
+    s.len = 0;
+    put(&s, 257, 4);
+    for (size_t len = COUNT; len <= MOST; len += CHART)
+        check_refused(&s, len, 0, 2, "257 charts");
+}
+
+int main(void)
+{
+    check_example();
+    check_statuses();
+    check_limits();
+
+    printf("sheets: %u checked, %u differ\n", checked, differ);
+    return differ != 0;
+}
