@@ -20,6 +20,7 @@ ghost use Rattle.closest_laws.specs.Closest.{playOf, closestAt, provided, weigh
 ghost use Rattle.closest_laws.specs.Presence.{lacking};
 ghost use Rattle.closest.specs.Code.{answerOf, ruleFor, playView, heldOf, Known, Room, Left, putAt, weightAt, LacksTwo, TwoOfLast, lastView, nearView, nearTry, bestView, bestTry, pairView, splitView, splitTry};
 use inspect::Query;
+use inspect::least;
 use score_state::HitResults;
 use score_state::Hits;
 use score_state::Points;
@@ -149,15 +150,15 @@ fn clamp_and_fill(play: Play) -> HitResults
 {
     let remain = play.remain;
     let counts = play.counts;
-    let n320 = min(counts.n320, remain.0);
+    let n320 = least(counts.n320, remain.0);
     let after320 = remain.0 - n320;
-    let n300 = min(counts.n300, after320);
+    let n300 = least(counts.n300, after320);
     let after300 = after320 - n300;
-    let n200 = min(counts.n200, after300);
+    let n200 = least(counts.n200, after300);
     let after200 = after300 - n200;
-    let n100 = min(counts.n100, after200);
+    let n100 = least(counts.n100, after200);
     let after100 = after200 - n100;
-    let n50 = min(counts.n50, after100);
+    let n50 = least(counts.n50, after100);
     let rest = after100 - n50;
     let clamped = HitResults {
         n320: n320,
@@ -348,8 +349,8 @@ fn solve_two_vars(w1: u32, w2: u32, hits: Hits, sum: Points, target: Points) -> 
     let base = sum.0 + w2 * hits.0;
     let over = saturating_sub(target.0, base);
     let step = w1 - w2;
-    let floor = min(hits.0, over / step);
-    let ceil = min(hits.0, div_ceil(over, step));
+    let floor = least(hits.0, over / step);
+    let ceil = least(hits.0, div_ceil(over, step));
     let none = Split {
         found: false,
         dist: Points(0),
@@ -419,11 +420,11 @@ fn values(held: bool, n: u32, room: u32, lo: u32, hi: u32) -> Span
     ensures { λ r. ⌜ (range (r .lo) (r .hi) ≡ Laws.values firstTwo (given held n) room lo hi) × (r .hi ≤ room) ⌝ }
 {
     if held {
-        let one = min(n, room);
+        let one = least(n, room);
         Span { lo: one, hi: one }
     } else {
-        let first = min(room, lo);
-        let last = min(min(room, hi), first + 1);
+        let first = least(room, lo);
+        let last = least(least(room, hi), first + 1);
         Span {
             lo: first,
             hi: last,
@@ -588,7 +589,7 @@ fn two_of_last(left: Hits, n: u32, base: Points, target: Points, light: u32, ste
 {
     let k = saturating_sub(left.0, n);
     let raw = saturating_sub(target.0, base.0 + light * k);
-    let x = min(k, div_round_ties_even(raw, step));
+    let x = least(k, div_round_ties_even(raw, step));
     let y = k - x;
     Pair(x, y)
 }
@@ -607,7 +608,7 @@ fn all_three(left: Hits, earned: Points, target: Points) -> Last
 {
     let lo = saturating_sub(target.0, earned.0 + 20 * left.0) / 20;
     let up = div_ceil(saturating_sub(target.0, earned.0), 40) + 1;
-    let hi = min(min(left.0, up), lo + 1);
+    let hi = least(least(left.0, up), lo + 1);
     let mut best = Near {
         found: false,
         dist: Points(0),
@@ -648,12 +649,6 @@ impl Near {
         let dist = score_state::gap_of(Points(score), target);
         self.offer(dist, Last(n.0, x, y))
     }
-}
-
-fn min(x: u32, y: u32) -> u32
-    ensures { λ r. ⌜ r ≡ min x y ⌝ }
-{
-    if x < y { x } else { y }
 }
 
 fn saturating_sub(x: u32, y: u32) -> u32

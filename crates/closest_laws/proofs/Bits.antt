@@ -1,88 +1,33 @@
 -- Presence numbers: a test of all 32, and the counts that are missing. Assumes nothing.
-use Prim.Native.Nat.{ℕ, zero, suc, _+_, _-_, _/_, _%_, _<_, _≤_, min}
-use mathlib.Core.Path.{_≡_, refl, sym, ap, _∙_, subst}
-use mathlib.Core.Bool.{Bool, true, false, not, cond, _&&_, true≢false}
+use Prim.Native.Nat.{ℕ, _+_, _-_, _/_, _%_, _<_, _≤_}
+use mathlib.Core.Path.{_≡_, refl, sym, ap, _∙_}
+use mathlib.Core.Bool.{Bool, true, false}
 use mathlib.Core.Logic.{_⊎_, ⊎-elim}
 use mathlib.Core.List.{List, [], _∷_}
-use mathlib.Core.Option.{Option, none, some}
+use mathlib.Core.Option.{Option, none}
 use native.Mathlib.Omega.{arith}
-use native.Mathlib.Numerals.{add-one}
-use borrow.Author.Tests.{eq-eqb, lt-ltb, le-leb}
-use lib.Dec.{T, eqb, ltb, leb, eqb→eq, leb→le}
+use borrow.Author.Tests.{eq-eqb}
+use lib.Dec.{T, eqb}
 use lib.ListN.{length}
-use types.Run.{OneOf, hit, miss}
+use types.Run.{OneOf}
 use mir.Val.{hasKey}
 use Rattle.score_state.specs.Given.{or, missing}
 use Rattle.inspect.specs.Presence.{has, given}
+use Rattle.inspect.proofs.Arms as Arms
 use Rattle.closest_laws.specs.Presence.{held, lacks, lacking}
 use Rattle.closest_laws.proofs.LastThree.{Open}
 
--- ---- a test of all numbers below 32
-abbrev imp : Bool → Bool → Bool
-imp true b = b
-imp false b = true
+-- ---- the missing counts of a presence number, by a test of all 32
+pub one-of : (t : ℕ → Bool) (ks : List ℕ) → Arms.Holds (λ k. t (lacking k)) (hasKey ks) → (k : ℕ) → k < 32 → t (lacking k) ≡ true → OneOf ks k
+one-of t ks p k h e = Arms.one-of (λ n. t (lacking n)) ks p k h e
 
-unimp : (a b : Bool) → T (imp a b) → a ≡ true → T b
-unimp true b t e = t
-unimp false b t e = absurd (true≢false (sym e))
+-- of a number that is one of the keys, or that is none of them and lies between lo and hi
+pub at-keys : (t : ℕ → Bool) (ks : List ℕ) → Arms.Holds (hasKey ks) (λ k. t (lacking k)) → (k : ℕ) → k < 32 → OneOf ks k → T (t (lacking k))
+at-keys t ks p k h o = Arms.at-keys (λ n. t (lacking n)) ks p k h o
 
-first : (a b : Bool) → T (a && b) → T a
-first true b t = tt
-first false b t = t
-
-second : (a b : Bool) → T (a && b) → T b
-second true b t = t
-second false b t = absurd t
-
-abbrev below : ℕ → (ℕ → Bool) → Bool
-below zero f = true
-below (suc n) f = f n && below n f
-
-apart : (a b : ℕ) → eqb a b ≡ false → a ≡ b → ⊥
-apart a b e z = true≢false (sym (eq-eqb a b z) ∙ e)
-
-at : (n : ℕ) (f : ℕ → Bool) → T (below n f) → (k : ℕ) → k < n → T (f k)
-at zero f t k h = absurd (omega arith)
-at (suc n) f t k h = go (eqb k n) refl (λ (l : k < n). at n f (second (f n) (below n f) t) k l)
-  where
-    go : (b : Bool) → eqb k n ≡ b → (k < n → T (f k)) → T (f k)
-    go true e i = subst (λ (m : ℕ). T (f m)) (sym (eqb→eq k n (subst T (sym e) tt))) (first (f n) (below n f) t)
-    go false e i = let z : k ≡ n → ⊥ = apart k n e in i (omega arith)
-
--- where g picks a number below 32, its missing counts pass the test t
-picked : (g t : ℕ → Bool) → T (below 32 (λ k. imp (g k) (t (lacking k)))) → (k : ℕ) → k < 32 → g k ≡ true → T (t (lacking k))
-picked g t p k h e = unimp (g k) (t (lacking k)) (at 32 (λ n. imp (g n) (t (lacking n))) p k h) e
-
--- where the missing counts of a number below 32 pass a test, it is one of the keys
-pub one-of : (t : ℕ → Bool) (ks : List ℕ) → T (below 32 (λ k. imp (t (lacking k)) (hasKey ks k))) → (k : ℕ) → k < 32 → t (lacking k) ≡ true → OneOf ks k
-one-of t ks p k h e = hit ks k (unimp (t (lacking k)) (hasKey ks k) (at 32 (λ n. imp (t (lacking n)) (hasKey ks n)) p k h) e)
-
--- ---- the facts of a match as tests
-by : (b : Bool) → (T (not b) → ⊥) → b ≡ true
-by true h = refl
-by false h = absurd (h tt)
-
-of-not : (b : Bool) → (T b → ⊥) → b ≡ false
-of-not true h = absurd (h tt)
-of-not false h = refl
-
-keyed : (ks : List ℕ) (x : ℕ) → OneOf ks x → hasKey ks x ≡ true
-keyed ks x o = by (hasKey ks x) (λ h. miss ks x h o)
-
-missed : (ks : List ℕ) (x : ℕ) → (OneOf ks x → ⊥) → hasKey ks x ≡ false
-missed ks x o = of-not (hasKey ks x) (λ h. o (hit ks x h))
-
--- the missing counts of a number that is one of the keys, or that is none of them and lies between lo and hi
-pub at-keys : (t : ℕ → Bool) (ks : List ℕ) → T (below 32 (λ k. imp (hasKey ks k) (t (lacking k)))) → (k : ℕ) → k < 32 → OneOf ks k → T (t (lacking k))
-at-keys t ks p k h o = picked (hasKey ks) t p k h (keyed ks k o)
-
-abbrev between : List ℕ → List ℕ → ℕ → ℕ → ℕ → Bool
-between ks ls lo hi k = not (hasKey ks k) && (not (hasKey ls k) && (leb lo k && ltb k hi))
-
-pub in-span : (t : ℕ → Bool) (ks ls : List ℕ) (lo hi : ℕ) → T (below 32 (λ k. imp (between ks ls lo hi k) (t (lacking k))))
+pub in-span : (t : ℕ → Bool) (ks ls : List ℕ) (lo hi : ℕ) → Arms.Holds (Arms.inSpan (ks ∷ ls ∷ []) lo hi) (λ k. t (lacking k))
     → (k : ℕ) → k < 32 → (OneOf ks k → ⊥) → (OneOf ls k → ⊥) → lo ≤ k → k < hi → T (t (lacking k))
-in-span t ks ls lo hi p k h n m l u =
-    picked (between ks ls lo hi) t p k h (rw (missed ks k n, missed ls k m, le-leb lo k l, lt-ltb k hi u))
+in-span t ks ls lo hi p k h n m l u = Arms.in-span (λ n. t (lacking n)) (ks ∷ ls ∷ []) lo hi p k h ((tt, m), n) l u
 
 -- what is left where an answer is one of the keys, and none of those before the last
 left : {A B : Type 0} → A ⊎ B → (A → ⊥) → B

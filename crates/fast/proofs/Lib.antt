@@ -1,5 +1,3 @@
 pub mod Difference
-pub mod Table
-pub mod Arms
 pub mod Bits
 pub mod Steps

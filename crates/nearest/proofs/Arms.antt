@@ -1,19 +1,16 @@
--- One computed test over the 32 presence numbers, carried to each arm of the match.
-use mathlib.Core.Path.{_≡_, refl, ap, sym, _∙_, subst}
-use mathlib.Core.Bool.{Bool, true, false, not, _&&_}
-use mathlib.Core.List.{List, [], _∷_}
+-- What fills the missing judgements, by the presence number. Assumes nothing.
+use mathlib.Core.Path.{_≡_, refl, ap, sym, _∙_}
+use mathlib.Core.List.{List}
 use Prim.Native.Nat.{ℕ, zero, suc, _/_, _%_, _<_, _≤_}
 use native.Mathlib.Omega.{arith}
-use lib.Dec.{T, eqb, leb, ltb, eqb→eq}
-use borrow.Author.Tests.{le-leb, lt-ltb}
-use lib.ListN.{length, getD, replicate}
-use types.Run.{OneOf, hit, miss}
+use lib.Dec.{eqb}
+use types.Run.{OneOf}
 use mir.Val.{hasKey}
 use Rattle.inspect.specs.Presence.{has}
 use Rattle.nearest.specs.Presence.{blanks, fillingOf}
 use Rattle.nearest.specs.declared.Filling.{Filling}
 use Rattle.nearest.specs.declared.Filling.the-variants.{Nothing, Single, Walk}
-use Rattle.nearest.proofs.Table.{every, at}
+use Rattle.inspect.proofs.Arms.{Holds, NoneOf, inSpan, value-at-keys, value-in-span}
 
 -- the cases of the enum as numbers, and back
 abbrev code : Filling → ℕ
@@ -56,60 +53,17 @@ unfolding blanks
 five-bits p =
     rw (bit p 1 (omega arith), bit p 2 (omega arith), bit p 4 (omega arith), bit p 8 (omega arith), bit p 16 (omega arith))
 
-abbrev imp : Bool → Bool → Bool
-imp true b = b
-imp false b = true
+-- what a number asks for, as a number
+abbrev asked : ℕ → ℕ
+asked k = code (fillingOf (blanks k))
 
-unimp : (a b : Bool) → T (imp a b) → a ≡ true → T b
-unimp true b t e = t
-unimp false b t e = let z : false ≡ true = e in absurd (subst (λ (q : Bool). T (not q)) e tt)
+back : (v : Filling) (x : ℕ) → code v ≡ asked x → v ≡ fillingOf (blanks x)
+back v x e = sym (decoded v) ∙ ap decode e ∙ decoded (fillingOf (blanks x))
 
--- where g picks k, k asks for v
-abbrev pub okay : (ℕ → Bool) → Filling → ℕ → ℕ → Bool
-okay g v k x = imp (g k) (eqb (code v) (code (fillingOf (blanks k))))
+-- an arm that is reached by the keys ks, and one by being none of the keys, and between lo and hi
+pub at-keys : (v : Filling) (ks : List ℕ) → Holds (hasKey ks) (λ k. eqb (code v) (asked k)) → (x : ℕ) → x < 32 → OneOf ks x → v ≡ fillingOf (blanks x)
+at-keys v ks t x h o = back v x (value-at-keys asked (code v) ks t x h o)
 
-pub arm : (g : ℕ → Bool) (v : Filling) → T (every (okay g v) 0 (replicate 32 0)) → (x : ℕ) → x < 32 → g x ≡ true → v ≡ fillingOf (blanks x)
-arm g v t x h e =
-    sym (decoded v)
-    ∙ ap decode (eqb→eq (code v) (code (fillingOf (blanks x))) (unimp (g x) (eqb (code v) (code (fillingOf (blanks x)))) (at (okay g v) (replicate 32 0) t x h) e))
-    ∙ decoded (fillingOf (blanks x))
-
-by : (b : Bool) → (T (not b) → ⊥) → b ≡ true
-by true h = refl
-by false h = absurd (h tt)
-
-of-not : (b : Bool) → (T b → ⊥) → b ≡ false
-of-not true h = absurd (h tt)
-of-not false h = refl
-
-pub keyed : (ks : List ℕ) (x : ℕ) → OneOf ks x → hasKey ks x ≡ true
-keyed ks x o = by (hasKey ks x) (λ h. miss ks x h o)
-
-pub missed : (ks : List ℕ) (x : ℕ) → (OneOf ks x → ⊥) → hasKey ks x ≡ false
-missed ks x o = of-not (hasKey ks x) (λ h. o (hit ks x h))
-
--- none of the keys of a list of arms, the last arm first, as a match's `rest` has it
-abbrev pub NoneOf : List (List ℕ) → ℕ → Type 0
-NoneOf [] x = Unit {0}
-NoneOf (ks ∷ kss) x = NoneOf kss x × (OneOf ks x → ⊥)
-
-abbrev pub noneOf : List (List ℕ) → ℕ → Bool
-noneOf [] x = true
-noneOf (ks ∷ kss) x = not (hasKey ks x) && noneOf kss x
-
-none : (kss : List (List ℕ)) (x : ℕ) → NoneOf kss x → noneOf kss x ≡ true
-none [] x n = refl
-none (ks ∷ kss) x n = rw (missed ks x (n .1), none kss x (n .0))
-
--- an arm that is reached by the keys ks
-pub at-keys : (v : Filling) (ks : List ℕ) → T (every (okay (hasKey ks) v) 0 (replicate 32 0)) → (x : ℕ) → x < 32 → OneOf ks x → v ≡ fillingOf (blanks x)
-at-keys v ks t x h o = arm (hasKey ks) v t x h (keyed ks x o)
-
-abbrev pub inSpan : List (List ℕ) → ℕ → ℕ → ℕ → Bool
-inSpan kss lo hi k = noneOf kss k && (leb lo k && ltb k hi)
-
--- an arm that is reached by being none of the keys, and between lo and hi
-pub in-span : (v : Filling) (kss : List (List ℕ)) (lo hi : ℕ) → T (every (okay (inSpan kss lo hi) v) 0 (replicate 32 0))
+pub in-span : (v : Filling) (kss : List (List ℕ)) (lo hi : ℕ) → Holds (inSpan kss lo hi) (λ k. eqb (code v) (asked k))
     → (x : ℕ) → x < 32 → NoneOf kss x → lo ≤ x → x < hi → v ≡ fillingOf (blanks x)
-in-span v kss lo hi t x h n l u =
-    arm (inSpan kss lo hi) v t x h (rw (none kss x n, le-leb lo x l, lt-ltb x hi u))
+in-span v kss lo hi t x h n l u = back v x (value-in-span asked (code v) kss lo hi t x h n l u)

@@ -1,6 +1,5 @@
 pub mod Level
 pub mod Known
-pub mod Table
 pub mod Arms
 pub mod Chosen
 pub mod Asked

@@ -37,14 +37,14 @@ div-ceil-requires c κs = (omega (arith, c .saturating-sub2 .ensures, c .before 
 add-up : tie.Need-add-up Inv-loop μ-loop
 add-up c = omega (arith, c .div-ceil .ensures .1, c .before .saturating-sub2 .ensures, c .before .before .before .before .before .pre .near)
 
-min-requires : tie.Need-min-requires Inv-loop μ-loop
-min-requires c κs = tt
+least-requires : tie.Need-least-requires Inv-loop μ-loop
+least-requires c κs = tt
 
-add-min : tie.Need-add-min Inv-loop μ-loop
-add-min c = omega (arith, c .before .before .before .saturating-sub .ensures, c .before .before .before .before .before .before .pre .near)
+add-least : tie.Need-add-least Inv-loop μ-loop
+add-least c = omega (arith, c .before .before .before .saturating-sub .ensures, c .before .before .before .before .before .before .pre .near)
 
-min-requires-2 : tie.Need-min-requires-2 Inv-loop μ-loop
-min-requires-2 c κs = tt
+least-requires-2 : tie.Need-least-requires-2 Inv-loop μ-loop
+least-requires-2 c κs = tt
 
 loop-holds : tie.Need-loop-holds Inv-loop μ-loop
 loop-holds c = refl
@@ -63,7 +63,7 @@ unfolding scan
 loop-again c =
     let x = c .before .before .before .before .before .before .before .before .before .before .args in
     let k = c .before .before .loop .n in
-    let hi = c .before .before .before .min2 .result in
+    let hi = c .before .before .before .least2 .result in
     ap (λ (z : Kept (Option ℕ) Last). scan nearer (each (range (k + 1) hi) (λ n. lastAt (x .left .0) (x .earned .0) (x .target .0) n ∷ [])) z) (c .at .ensures)
     ∙ sym (loop-step nearer (λ n. lastAt (x .left .0) (x .earned .0) (x .target .0) n ∷ []) k hi (nearView (c .before .before .loop .best)) (omega arith))
     ∙ c .before .before .loop .inv
@@ -71,9 +71,9 @@ loop-again c =
 returns : tie.Need-returns Inv-loop μ-loop
 returns c =
     let x = c .before .before .before .before .before .before .before .before .before .before .args in
-    all-is (x .left .0) (x .earned .0) (x .target .0) (c .before .before .before .before .before .before .before .saturating-sub .result) (c .before .before .before .before .before .before .saturating-sub2 .result) (c .before .before .before .before .before .before .before .saturating-sub .result / 20) (c .before .before .before .before .before .div-ceil .result) (c .before .before .before .before .min .result) (c .before .before .before .min2 .result) (nearView (c .before .before .loop .best))
-    (c .before .before .before .before .before .before .before .saturating-sub .ensures) refl (c .before .before .before .before .before .before .saturating-sub2 .ensures) (c .before .before .before .before .before .div-ceil .ensures .0) (c .before .before .before .before .min .ensures) (c .before .before .before .min2 .ensures)
-    (sym (loop-end nearer (λ n. lastAt (x .left .0) (x .earned .0) (x .target .0) n ∷ []) (c .before .before .loop .n) (c .before .before .before .min2 .result) (nearView (c .before .before .loop .best)) (omega arith)) ∙ c .before .before .loop .inv)
+    all-is (x .left .0) (x .earned .0) (x .target .0) (c .before .before .before .before .before .before .before .saturating-sub .result) (c .before .before .before .before .before .before .saturating-sub2 .result) (c .before .before .before .before .before .before .before .saturating-sub .result / 20) (c .before .before .before .before .before .div-ceil .result) (c .before .before .before .before .least .result) (c .before .before .before .least2 .result) (nearView (c .before .before .loop .best))
+    (c .before .before .before .before .before .before .before .saturating-sub .ensures) refl (c .before .before .before .before .before .before .saturating-sub2 .ensures) (c .before .before .before .before .before .div-ceil .ensures .0) (c .before .before .before .before .least .ensures) (c .before .before .before .least2 .ensures)
+    (sym (loop-end nearer (λ n. lastAt (x .left .0) (x .earned .0) (x .target .0) n ∷ []) (c .before .before .loop .n) (c .before .before .before .least2 .result) (nearView (c .before .before .loop .best)) (omega arith)) ∙ c .before .before .loop .inv)
 
 pub all-three-spec : {M : Type 1} → statement M
 all-three-spec =
@@ -87,9 +87,9 @@ all-three-spec =
     saturating-sub-requires-2
     div-ceil-requires
     add-up
-    min-requires
-    add-min
-    min-requires-2
+    least-requires
+    add-least
+    least-requires-2
     loop-holds
     at-requires
     add-n

@@ -28,17 +28,17 @@ saturating-sub-requires c κs = tt
 sub-step : tie.Need-sub-step
 sub-step c = c .before .before .before .before .pre .1
 
-div-min : tie.Need-div-min
-div-min c = omega (arith, c .before .before .before .before .pre .1, c .before .before .before .if1 .left)
+div-least : tie.Need-div-least
+div-least c = omega (arith, c .before .before .before .before .pre .1, c .before .before .before .if1 .left)
 
-min-requires : tie.Need-min-requires
-min-requires c κs = tt
+least-requires : tie.Need-least-requires
+least-requires c κs = tt
 
 div-ceil-requires : tie.Need-div-ceil-requires
 div-ceil-requires c κs = (omega (arith, c .before .saturating-sub .ensures, c .before .before .before .before .before .pre .4), omega (arith, c .before .before .before .before .before .pre .1, c .before .before .before .before .if1 .left), omega (arith, c .before .before .before .before .before .pre .0))
 
-min-requires-2 : tie.Need-min-requires-2
-min-requires-2 c κs = tt
+least-requires-2 : tie.Need-least-requires-2
+least-requires-2 c κs = tt
 
 at-requires : tie.Need-at-requires
 at-requires c κs =
@@ -48,12 +48,12 @@ at-requires c κs =
 at-requires-2 : tie.Need-at-requires-2
 at-requires-2 c κs =
     let p = c .before .before .before .before .before .before .before .before .pre in
-    (p .0, le-trans (p .1) (p .0), p .2, p .3, le-trans (le-of-eq (c .before .before .before .min .ensures)) (min-le-left _ _))
+    (p .0, le-trans (p .1) (p .0), p .2, p .3, le-trans (le-of-eq (c .before .before .before .least .ensures)) (min-le-left _ _))
 
 at-requires-3 : tie.Need-at-requires-3
 at-requires-3 c κs =
     let p = c .before .before .before .before .before .before .before .before .before .pre in
-    (p .0, le-trans (p .1) (p .0), p .2, p .3, le-trans (le-of-eq (c .before .before .min2 .ensures)) (min-le-left _ _))
+    (p .0, le-trans (p .1) (p .0), p .2, p .3, le-trans (le-of-eq (c .before .before .least2 .ensures)) (min-le-left _ _))
 
 at-requires-4 : tie.Need-at-requires-4
 at-requires-4 c κs =
@@ -63,9 +63,9 @@ at-requires-4 c κs =
 returns-2 : tie.Need-returns-2
 returns-2 c =
     let x = c .before .before .before .before .before .before .before .before .before .before .before .before .args in
-    four (x .w1) (x .w2) (x .target .0) (x .hits .0) (x .sum .0) (c .before .before .before .before .before .before .before .before .saturating-sub .result) (c .before .before .before .before .before .before .before .min .result) (c .before .before .before .before .before .before .div-ceil .result) (c .before .before .before .before .before .min2 .result)
+    four (x .w1) (x .w2) (x .target .0) (x .hits .0) (x .sum .0) (c .before .before .before .before .before .before .before .before .saturating-sub .result) (c .before .before .before .before .before .before .before .least .result) (c .before .before .before .before .before .before .div-ceil .result) (c .before .before .before .before .before .least2 .result)
     _ (splitView (c .before .before .before .before .at .result)) (splitView (c .before .before .before .at2 .result)) (splitView (c .before .before .at3 .result)) (splitView (c .before .at4 .result))
-    (c .before .before .before .before .before .before .before .before .before .before .before .if1 .left) (c .before .before .before .before .before .before .before .before .saturating-sub .ensures) (c .before .before .before .before .before .before .before .min .ensures) (c .before .before .before .before .before .before .div-ceil .ensures .0) (c .before .before .before .before .before .min2 .ensures) refl
+    (c .before .before .before .before .before .before .before .before .before .before .before .if1 .left) (c .before .before .before .before .before .before .before .before .saturating-sub .ensures) (c .before .before .before .before .before .before .before .least .ensures) (c .before .before .before .before .before .before .div-ceil .ensures .0) (c .before .before .before .before .before .least2 .ensures) refl
     (c .before .before .before .before .at .ensures) (c .before .before .before .at2 .ensures) (c .before .before .at3 .ensures) (c .before .at4 .ensures)
 
 pub solve-two-vars-spec : {M : Type 1} → statement M
@@ -78,10 +78,10 @@ solve-two-vars-spec =
     add-base
     saturating-sub-requires
     sub-step
-    div-min
-    min-requires
+    div-least
+    least-requires
     div-ceil-requires
-    min-requires-2
+    least-requires-2
     at-requires
     at-requires-2
     at-requires-3

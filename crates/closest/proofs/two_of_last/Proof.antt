@@ -25,18 +25,18 @@ saturating-sub-requires-2 c κs = tt
 div-round-ties-even-requires : tie.Need-div-round-ties-even-requires
 div-round-ties-even-requires c κs = (omega (arith, c .saturating-sub2 .ensures, c .before .before .before .pre .2), c .before .before .before .pre .4, omega (arith, c .before .before .before .pre .5))
 
-min-requires : tie.Need-min-requires
-min-requires c κs = tt
+least-requires : tie.Need-least-requires
+least-requires c κs = tt
 
 sub-y : tie.Need-sub-y
-sub-y c = le-trans (le-of-eq (c .min .ensures)) (min-le-left _ _)
+sub-y c = le-trans (le-of-eq (c .least .ensures)) (min-le-left _ _)
 
 returns : tie.Need-returns
 returns c =
     let x = c .before .before .before .before .before .args in
     let t =
-    two-last-is (x .left .0) (x .n) (x .base .0) (x .target .0) (x .light) (x .step) (c .before .before .before .before .saturating-sub .result) (c .before .before .saturating-sub2 .result) (c .before .div-round-ties-even .result) (c .min .result)
-    (c .before .before .before .before .saturating-sub .ensures) (c .before .before .saturating-sub2 .ensures) (c .before .div-round-ties-even .ensures) (c .min .ensures) in
+    two-last-is (x .left .0) (x .n) (x .base .0) (x .target .0) (x .light) (x .step) (c .before .before .before .before .saturating-sub .result) (c .before .before .saturating-sub2 .result) (c .before .div-round-ties-even .result) (c .least .result)
+    (c .before .before .before .before .saturating-sub .ensures) (c .before .before .saturating-sub2 .ensures) (c .before .div-round-ties-even .ensures) (c .least .ensures) in
     record { heavier = t .0; lighter = t .1 }
 
 pub two-of-last-spec : {M : Type 1} → statement M
@@ -48,6 +48,6 @@ two-of-last-spec =
     add-saturating-sub
     saturating-sub-requires-2
     div-round-ties-even-requires
-    min-requires
+    least-requires
     sub-y
     returns)
