@@ -112,12 +112,72 @@ fn exact(rng: &mut Rng, n: usize, hits: u32, missing: usize) -> Vec<Query> {
     (0..n).map(|_| query()).collect()
 }
 
+/// The innermost steps of Closest's search with three or more missing, as the bounds of its loops
+/// tell: each n200 where the last three are missing, else each pair of n320 and n300. `most` is how
+/// many values of a loop are run through.
+fn steps(q: &Query, most: i64) -> i64 {
+    let [n320, n300, n200, n100, n50] = q.given().map(|n| n.map(i64::from));
+    let (w, remain, target) = (i64::from(q.weights()[0]), i64::from(q.remain()), q.target());
+    let space: i64 = [n200, n100, n50].into_iter().flatten().sum();
+    let all_three = n200.or(n100).or(n50).is_none();
+    let up = |n: i64, d: i64| (n.max(0) + d - 1) / d + 1;
+    let range = |n: Option<i64>, room: i64, lo: i64, hi: i64| match n {
+        Some(n) => n.min(room)..=n.min(room),
+        None => room.min(lo)..=room.min(hi).min(room.min(lo) + most - 1),
+    };
+    let mut steps = 0;
+
+    for x in range(
+        n320,
+        (remain - space).max(0),
+        (target - 10 * remain).max(0) / (w - 10),
+        up(target, w),
+    ) {
+        let (left, score) = (remain - x, target - w * x);
+
+        if left < space {
+            continue;
+        }
+
+        for y in range(
+            n300,
+            left - space,
+            (score - 10 * left).max(0) / 50,
+            up(score, 60),
+        ) {
+            let (left, score) = (left - y, score - 60 * y);
+
+            if all_three {
+                let lo = (score - 20 * left).max(0) / 20;
+                let hi = left.min(up(score, 40)).min(lo + most - 1);
+                steps += (hi - lo + 1).max(0);
+            } else if left >= space {
+                steps += 1;
+            }
+        }
+    }
+
+    steps
+}
+
+/// The mean and the most steps of a batch.
+fn print_steps(what: &str, side: &str, batch: &[Query], most: i64) {
+    let steps: Vec<_> = batch.iter().map(|q| steps(q, most)).collect();
+    let mean = steps.iter().sum::<i64>() / steps.len() as i64;
+    println!(
+        "bench {what}: {side} {mean} steps in the mean, {} at the most",
+        steps.iter().max().unwrap()
+    );
+}
+
 fn closest(rng: &mut Rng) {
     for (hits, n) in [(50, 256), (100, 256), (200, 128), (400, 64), (800, 32)] {
         for missing in 3..=5 {
             let batch = exact(rng, n, hits, missing);
             let what = format!("closest, {hits} hits, {missing} missing");
             method(&what, Method::Closest, &batch);
+            print_steps(&what, "ours", &batch, 2);
+            print_steps(&what, "the Rust", &batch, i64::from(u32::MAX));
         }
     }
 
@@ -128,6 +188,12 @@ fn closest(rng: &mut Rng) {
             println!(
                 "bench closest, {hits} hits, {missing} missing: ours {}",
                 side(ns)
+            );
+            print_steps(
+                &format!("closest, {hits} hits, {missing} missing"),
+                "ours",
+                &batch,
+                2,
             );
         }
     }
