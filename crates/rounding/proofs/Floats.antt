@@ -76,29 +76,12 @@ lt-value (inf s) y a c b d C D h k = absurd h
 lt-value (fin false m e) nan a c b d C D h k = absurd k
 lt-value (fin false m e) (inf s) a c b d C D h k = absurd k
 
--- ---- k * 0.5 is exactly k / 2
-abbrev pub half : ℕ → Float
-half k = mul binary64 (ofInt binary64 (pos k)) (ofBits binary64 0x3fe0_0000_0000_0000)
-
+-- ---- a whole number as an f64
 pub of-int : (n : ℕ) → n ≤ 2 ^ 53 → HasValue (ofInt binary64 (pos n)) false n 1
 unfolding ofInt
 of-int n h = round-whole binary64 false n h
 
-point-five : ofBits binary64 0x3fe0_0000_0000_0000 ≡ fin false 1 (negsuc 0)
-unfolding ofBits
-point-five = refl
-
-pub half-value : (k : ℕ) → 0 < k → k < 2 ^ 53 → HasValue (half k) false k 2
-half-value k K h =
-    let v = of-int k (le-of-lt h) in
-    let p : HasValue (ofBits binary64 0x3fe0_0000_0000_0000) false 1 2 = subst (λ (y : Float). HasValue y false 1 2) (sym point-five) (refl, refl) in
-    let e : half k ≡ round binary64 false (k * 1) (1 * 2) =
-    mul-at binary64 (ofInt binary64 (pos k)) (ofBits binary64 0x3fe0_0000_0000_0000) k 1 1 2
-    (positive-of-value (ofInt binary64 (pos k)) k 1 v K) (positive-of-value (ofBits binary64 0x3fe0_0000_0000_0000) 1 2 p (lit< tt)) (lit< tt) (lit< tt) v p in
-    subst (λ (y : Float). HasValue y false k 2) (sym (e ∙ ap (λ (x : ℕ). round binary64 false x 2) (mul-one k)))
-    (round-exact binary64 false k 2 k 1073 (lit< tt) h (lt-of-lt-of-le (shl-lt 53 1073 h) (lit≤ tt)) (sym (mul-assoc k (2 ^ 1073) 2)))
-
--- ---- what a value from -0 up and below 2 ^ 31 gives
+-- ---- what a value from -0 up gives
 -- what `le` says of two numbers that are not negative
 says-le : (a b : ℕ) → T (ltb a b || (eqb a b && true)) → a ≤ b
 says-le a b t = go (ltb a b) (eqb a b) (ltb→lt a b) (eqb→eq a b) t
@@ -109,97 +92,15 @@ says-le a b t = go (ltb a b) (eqb a b) (ltb→lt a b) (eqb→eq a b) t
     go false false f g t = absurd t
 
 -- a negative sign leaves only a zero
-minus-zero : (m : ℕ) (e : ℤ) → T (le zero64 (fin true m e)) → m * up e * 1 ≡ 0
+pub minus-zero : (m : ℕ) (e : ℤ) → T (le zero64 (fin true m e)) → m * up e * 1 ≡ 0
 unfolding le
 minus-zero m e t = go (eqb (0 * 1 * down e) (m * up e * 1)) (eqb→eq (0 * 1 * down e) (m * up e * 1)) (zero-mul (down e)) (and-l (eqb (0 * 1 * down e) (m * up e * 1)) (eqb (0 * 1 * down e) 0) t)
   where
     go : (x : Bool) → (T x → 0 * 1 * down e ≡ m * up e * 1) → 0 * 1 * down e ≡ 0 → T x → m * up e * 1 ≡ 0
     go x f z t = sym (f t) ∙ z
 
-zero-below : (b d : ℕ) → 0 < d → b ≡ 0 → b < 1 * d
-zero-below b d D z = omega arith
-
 some : (a b d : ℕ) → 0 < d → 0 < a + (b + 1) * d
 some a b d D = lt-of-lt-of-le D (le-trans (le-of-eq (sym (one-mul d))) (le-trans (mul-le-mul-right d (le-add-left 1 b)) (le-add-left ((b + 1) * d) a)))
-
-pub in-range : (x : Float) → T (le zero64 x) → T (lt x (fin false 1 (pos 31))) → T (lt (fin true 1 (pos 0)) x) × T (lt x (fin false 1 (pos 64)))
-in-range nan h k = absurd (unfold le in h)
-in-range (inf true) h k = absurd (unfold le in h)
-in-range (inf false) h k = absurd (unfold lt in k)
-in-range (fin true m e) h k = unfold lt in (
-  lt→ltb (m * up e * 1) (1 * down e) (zero-below (m * up e * 1) (down e) (down-pos e) (minus-zero m e h)),
-  lt→ltb 0 (m * up e * 1 + 2 ^ 64 * down e) (some (m * up e * 1) (2 ^ 64 - 1) (down e) (down-pos e)),
-)
-in-range (fin false m e) h k = unfold lt in (
-  lt→ltb 0 (1 * down e + m * up e * 1) (lt-of-lt-of-le (down-pos e) (le-trans (le-of-eq (sym (one-mul (down e)))) (le-add-right (1 * down e) (m * up e * 1)))),
-  lt→ltb (m * up e * 1) (2 ^ 64 * down e) (lt-of-lt-of-le (ltb→lt (m * up e * 1) (2 ^ 31 * down e) k) (mul-le-mul-right (down e) (lit≤ tt))),
-)
-
-capped : (a : ℕ) → a < 2 ^ 31 → min a (2 ^ 64 - 1) ≡ a
-capped a h = omega arith
-
-whole-lt : (m : ℕ) (e : ℤ) → T (lt (fin false m e) (fin false 1 (pos 31))) → m * up e / down e < 2 ^ 31
-unfolding lt
-whole-lt m e k = div-lt-iff-lt-mul (down-pos e) .1 (lt-of-le-of-lt (le-of-eq (sym (mul-one (m * up e)))) (ltb→lt (m * up e * 1) (2 ^ 31 * down e) k))
-
--- the whole part is below 2 ^ 31
-pub cut-lt : (x : Float) → T (le zero64 x) → T (lt x (fin false 1 (pos 31))) → toUnsigned 64 x < 2 ^ 31
-unfolding toUnsigned
-cut-lt nan h k = lit< tt
-cut-lt (inf true) h k = lit< tt
-cut-lt (inf false) h k = absurd (unfold lt in k)
-cut-lt (fin true m e) h k = lit< tt
-cut-lt (fin false m e) h k = let w = whole-lt m e k in lt-of-le-of-lt (le-of-eq (capped (m * up e / down e) w)) w
-
--- a negative number is below a value above zero
-neg-below : (m : ℕ) (e : ℤ) (y : Float) (b d : ℕ) → 0 < b → HasValue y false b d → lt (fin true m e) y ≡ true
-neg-below m e nan b d B h = absurd h
-neg-below m e (inf s) b d B h = absurd h
-neg-below m e (fin true n g) b d B h = absurd (true≢false (h .0))
-neg-below m e (fin false n g) b d B h =
-    unfold lt in lt-ltb 0 (m * up e * down g + n * up g * down e)
-    (lt-of-lt-of-le (mul-pos (mul-pos (ltb→lt 0 n (positive-of-value (fin false n g) b d h B)) (up-pos g)) (down-pos e)) (le-add-left (n * up g * down e) (m * up e * down g)))
-
--- what the three ways out of `round_ties_even` return, with t the whole part of x
-abbrev pub Rounded : Float → ℕ → Type 0
-Rounded x t =
-    (lt x (half (2 * t + 1)) ≡ true → t ≡ roundEven x)
-    × (lt x (half (2 * t + 1)) ≡ false → lt (half (2 * t + 1)) x ≡ true → t + 1 ≡ roundEven x)
-    × (lt x (half (2 * t + 1)) ≡ false → lt (half (2 * t + 1)) x ≡ false → t + t % 2 ≡ roundEven x)
-
-odd-small : (t : ℕ) → t < 2 ^ 31 → 2 * t + 1 < 2 ^ 53
-odd-small t h = omega arith
-
-odd-pos : (t : ℕ) → 0 < 2 * t + 1
-odd-pos t = omega arith
-
-rounded-at : (m : ℕ) (e : ℤ) → m * up e / down e < 2 ^ 31 → Rounded (fin false m e) (m * up e / down e)
-unfolding roundEven
-rounded-at m e w =
-    let n = m * up e in
-    let d = down e in
-    let k = 2 * (n / d) + 1 in
-    let x = fin false m e in
-    let v = half-value k (odd-pos (n / d)) (odd-small (n / d) w) in
-    let a : lt x (half k) ≡ ltb (n * 2) (k * d) = lt-value x (half k) n d k 2 (down-pos e) (lit< tt) (refl, refl) v in
-    let b : lt (half k) x ≡ ltb (k * d) (n * 2) = lt-value (half k) x k 2 n d (lit< tt) (down-pos e) v (refl, refl) in
-    let c = closest-by n d in (
-      λ p. sym (c .0 (ltb-true (n * 2) (k * d) (sym a ∙ p))),
-      λ p q. sym (c .1 (ltb-true (k * d) (n * 2) (sym b ∙ q))),
-      λ p q. sym (c .2 (le-antisymm (ltb-false (k * d) (n * 2) (sym b ∙ q)) (ltb-false (n * 2) (k * d) (sym a ∙ p)))),
-    )
-
-pub rounded : (x : Float) (t : ℕ) → T (le zero64 x) → T (lt x (fin false 1 (pos 31))) → t ≡ toUnsigned 64 x → Rounded x t
-unfolding roundEven toUnsigned
-rounded nan t h k e = absurd (unfold le in h)
-rounded (inf true) t h k e = absurd (unfold le in h)
-rounded (inf false) t h k e = absurd (unfold lt in k)
-rounded (fin true m g) t h k e =
-    let y : lt (fin true m g) (half (2 * t + 1)) ≡ true = subst (λ (u : ℕ). lt (fin true m g) (half (2 * u + 1)) ≡ true) (sym e) (neg-below m g (half 1) 1 2 (lit< tt) (half-value 1 (lit< tt) (lit< tt))) in
-    ((λ p. e), (λ p q. absurd (true≢false (sym y ∙ p))), (λ p q. absurd (true≢false (sym y ∙ p))))
-rounded (fin false m g) t h k e =
-    let w = whole-lt m g k in
-    subst (λ (u : ℕ). Rounded (fin false m g) u) (sym (e ∙ capped (m * up g / down g) w)) (rounded-at m g w)
 
 -- ---- a value from -0 up to one that is n
 pub le-value : (x y : Float) (a c b d : ℕ) → 0 < c → 0 < d → HasValue x false a c → HasValue y false b d → T (le x y) → a * d ≤ b * c

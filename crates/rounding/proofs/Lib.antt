@@ -3,3 +3,4 @@ pub mod Distance
 pub mod Less
 pub mod Apart
 pub mod Whole
+pub mod WholeSum

@@ -55,7 +55,7 @@ fn unknown_row(row: Row) -> bool
 fn row_stop(row: Row, chart: Chart) -> u32
     ensures { λ r. ⌜ r ≡ rowStop row chart ⌝ }
 {
-    if inspect::chart_over(chart) {
+    if inspect::chart_over(chart.n_objects, chart.n_hold_notes) {
         return 7;
     }
     if unknown_row(row) {

@@ -6,11 +6,11 @@ use Rattle.inspect.proofs.chart_over.Tie as tie
 
 returns : tie.Need-returns
 unfolding chartOver
-returns c = rw (lt-ltb 100000 (c .before .before .args .chart .«n_objects») (c .if1 .taken))
+returns c = rw (lt-ltb 100000 (c .before .args .objects) (c .if1 .taken))
 
 returns-2 : tie.Need-returns-2
 unfolding chartOver
-returns-2 c = rw (le-ltb 100000 (c .before .before .before .args .chart .«n_objects») (c .before .if1 .left))
+returns-2 c = rw (le-ltb 100000 (c .before .args .objects) (c .if1 .left))
 
 pub chart-over-spec : {M : Type 1} → statement M
 chart-over-spec = tie.close (tie.spec returns returns-2)

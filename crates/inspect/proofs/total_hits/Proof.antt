@@ -14,12 +14,12 @@ is-given-requires c κs = search needs
 shortened-requires : tie.Need-shortened-requires
 shortened-requires c κs = search needs
 
-add-t6 : tie.Need-add-t6
-add-t6 c = search needs
+add-t5 : tie.Need-add-t5
+add-t5 c = search needs
 
 returns : tie.Need-returns
 unfolding totalHits
-returns c = (rw (c .if1 .taken) (c .before .shortened .ensures .0 ∙ ap (λ (b : Bool). shortened (given b (c .before .before .before .before .args .q .passed)) (c .before .before .before .before .args .q .chart .«n_objects»)) (c .before .before .is-given .ensures)), omega arith)
+returns c = (rw (c .if1 .taken) (c .before .shortened .ensures .0 ∙ ap (λ (b : Bool). shortened (given b (c .before .before .before .args .q .passed)) (c .before .before .before .args .q .chart .«n_objects»)) (c .before .before .is-given .ensures)), omega arith)
 
 returns-2 : tie.Need-returns-2
 unfolding totalHits
@@ -27,4 +27,4 @@ returns-2 c = (rw (c .before .if1 .left, c .before .before .shortened .ensures .
 
 pub total-hits-spec : {M : Type 1} → statement M
 total-hits-spec =
-    tie.close (tie.spec is-given-requires shortened-requires add-t6 returns returns-2)
+    tie.close (tie.spec is-given-requires shortened-requires add-t5 returns returns-2)
