@@ -4,7 +4,6 @@ use mathlib.Core.Path.{_≡_, refl}
 use mathlib.Core.Bool.{Bool}
 use native.Mathlib.Omega.{arith}
 use lib.Dec.{T, leb, eqb, leb→le, eqb→eq}
-use Rattle.closest.specs.declared.Rule.{Rule}
 use Rattle.closest.specs.declared.Rule.the-variants.{ClampAndFill, TwoMissing, ThreePlusMissing}
 use Rattle.closest.specs.Code.{ruleFor}
 

@@ -3,8 +3,8 @@
 use Prim.Native.Nat.{ℕ, zero, suc, _+_, _-_, _*_, _≤_, _<_, min}
 use mathlib.Core.Path.{_≡_}
 use mathlib.Core.List.{List, [], _∷_}
-use mathlib.Core.Bool.{Bool, cond}
-use mathlib.Core.Option.{Option, none, some}
+use mathlib.Core.Bool.{cond}
+use mathlib.Core.Option.{Option, some}
 use lib.Dec.{eqb}
 use lib.ListN.{set}
 use lib.Ieee.{Float}
@@ -19,7 +19,7 @@ use Rattle.inspect.specs.Inspect.{Inspect, totalHits, misses}
 use Rattle.inspect.specs.Answers.{Answer, worked, refused}
 use Rattle.closest_laws.specs.Loops.{Kept}
 use Rattle.closest_laws.specs.Closest.{Play, Last, six}
-use Rattle.closest_laws.specs.Presence.{held, lacking}
+use Rattle.closest_laws.specs.Presence.{held}
 use Rattle.closest.specs.declared.Closest.{Closest}
 use Rattle.closest.specs.declared.Closest.the-variants.{Counts, Overfull}
 use Rattle.closest.specs.declared.Rule.{Rule}

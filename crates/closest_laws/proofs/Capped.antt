@@ -1,10 +1,10 @@
 -- The search over the first two values of each loop is the whole search. Assumes nothing.
 use Prim.Native.Nat.{ℕ, zero, suc, _+_, _-_, _*_, _/_, _^_, _<_, _≤_, min, zero-le}
 use mathlib.Core.Path.{_≡_, refl, sym, ap, _∙_, subst}
-use mathlib.Core.Bool.{Bool, true, false, cond, true≢false}
+use mathlib.Core.Bool.{Bool, true, false, cond}
 use mathlib.Core.Option.{Option, none, some}
-use mathlib.Core.List.{List, [], _∷_, _++_, List·Memᴰ, List·Memᴰ·head, List·Memᴰ·not-nil, List·Memᴰ·eq-of-singleton}
-use native.Mathlib.Nat.{mul-add, add-mul, mul-comm, mul-le-mul-right, mul-le-mul-left, mul-pos, le-trans, le-of-eq, le-of-lt, lt-of-le-of-lt, lt-of-lt-of-le, lt-div-mul-add}
+use mathlib.Core.List.{List, [], _∷_, List·Memᴰ, List·Memᴰ·head, List·Memᴰ·eq-of-singleton}
+use native.Mathlib.Nat.{mul-add, add-mul, mul-comm, mul-le-mul-right, mul-le-mul-left, mul-pos, le-trans, le-of-lt, lt-of-le-of-lt, lt-of-lt-of-le, lt-div-mul-add}
 use native.Mathlib.Omega.{arith}
 use native.Mathlib.Decide.{decLe}
 use borrow.Author.Tests.{le-ltb, ltb-false, eq-eqb, ne-eqb}

@@ -1,10 +1,10 @@
 -- optimize_last_three: its loop over the first two values, its hits, and its points where the target is passed already. Assumes nothing.
-use Prim.Native.Nat.{ℕ, zero, suc, _+_, _-_, _*_, _/_, _%_, _<_, _≤_, min}
+use Prim.Native.Nat.{ℕ, suc, _+_, _-_, _*_, _/_, _<_, _≤_, min}
 use mathlib.Core.Path.{_≡_, refl, sym, ap, _∙_, subst}
-use mathlib.Core.Bool.{Bool, true, false, cond, true≢false, false≢true}
+use mathlib.Core.Bool.{Bool, true, false, cond, false≢true}
 use mathlib.Core.Option.{Option, none, some}
-use mathlib.Core.List.{List, [], _∷_, _++_, List·Memᴰ, List·Memᴰ·head, List·Memᴰ·eq-of-singleton}
-use native.Mathlib.Nat.{le-refl, lt-irrefl, lt-of-le-of-lt, lt-trans}
+use mathlib.Core.List.{List, [], _∷_, List·Memᴰ, List·Memᴰ·head, List·Memᴰ·eq-of-singleton}
+use native.Mathlib.Nat.{le-refl, lt-of-le-of-lt, lt-trans}
 use native.Mathlib.Decide.{decLe}
 use native.Mathlib.Omega.{arith}
 use borrow.Author.Tests.{lt-ltb, le-ltb, ltb-true}
@@ -15,7 +15,7 @@ use Rattle.score_state.specs.Given.{or}
 use Rattle.closest_laws.specs.Loops.{Kept, from, range, firstTwo, each, offer, scan, nearer}
 use Rattle.closest_laws.specs.Closest.{Last, ceiling, lastAt, optimizeLastThree}
 use Rattle.rounding.proofs.Floats.{closest-by}
-use Rattle.closest_laws.proofs.Scan.{mem-each, mem-range, mem-two, scan-all, two-enough}
+use Rattle.closest_laws.proofs.Scan.{mem-each, mem-two, scan-all, two-enough}
 
 -- ---- the order of whole distances
 pub nearer-self : (d : Option ℕ) → nearer d d ≡ false

@@ -1,8 +1,7 @@
 -- The steps of the code's search with three or more missing. Assumes nothing.
-use Prim.Native.Nat.{ℕ, suc, _+_, _-_, _*_, _/_, _%_, _^_, _<_, _≤_, min}
-use mathlib.Core.Path.{_≡_, refl, sym, ap, _∙_, subst}
-use mathlib.Core.Bool.{Bool, true, false, cond}
-use mathlib.Core.Option.{Option, none, some}
+use Prim.Native.Nat.{ℕ, _+_, _-_, _*_, _^_, _<_, _≤_}
+use mathlib.Core.Path.{_≡_, sym, ap, _∙_}
+use mathlib.Core.Bool.{Bool, cond}
 use mathlib.Core.List.{List, [], _∷_}
 use native.Mathlib.Nat.{mul-le-mul-right}
 use native.Mathlib.Omega.{arith}
@@ -14,8 +13,8 @@ use Rattle.score_state.specs.Accuracy.{accuracyOf}
 use Rattle.score_state.specs.declared.HitResults.{HitResults}
 use Rattle.closest_laws.specs.Loops.{Kept, range, firstTwo, each, offer, scan}
 use Rattle.closest_laws.specs.Closest.{Play, Last, optimizeLastThree, space, values320, values300, resultAt, tryAt, inner, outer, start, search, cappedSearch, optimizeThreePlusMissing}
-use Rattle.closest_laws.proofs.LastThree.{Open, sized, spaceOf, last-hits}
-use Rattle.closest_laws.proofs.Capped.{Fair, capped-is}
+use Rattle.closest_laws.proofs.LastThree.{Open, sized, last-hits}
+use Rattle.closest_laws.proofs.Capped.{capped-is}
 
 -- the last three are all that is left
 pub last-few : (p : Play) (r A : ℕ) (l : Last) → Open (p .n200) (p .n100) (p .n50) → space p ≤ r → l ≡ optimizeLastThree firstTwo (p .n200) (p .n100) (p .n50) r A (p .target) → sized l ≡ r

@@ -1,9 +1,9 @@
 -- optimize_two_missing: with exactly two counts missing no split of them is nearer to the target. Assumes nothing.
 use Prim.Native.Nat.{ℕ, zero, suc, _+_, _-_, _*_, _/_, _<_, _≤_, min}
 use mathlib.Core.Path.{_≡_, refl, sym, ap, _∙_, subst}
-use mathlib.Core.Bool.{Bool, true, false, cond}
+use mathlib.Core.Bool.{Bool, false, cond}
 use mathlib.Core.Option.{Option, none, some}
-use mathlib.Core.List.{List, [], _∷_, _++_, List·Memᴰ, List·Memᴰ·head, List·Memᴰ·tail}
+use mathlib.Core.List.{List, [], _∷_, List·Memᴰ, List·Memᴰ·head, List·Memᴰ·tail}
 use native.Mathlib.Nat.{zero-mul, mul-add, add-mul, mul-comm, mul-le-mul-left, mul-le-mul-right, le-refl, le-trans, div-mul-le-self, lt-div-mul-add, div-lt-iff-lt-mul}
 use native.Mathlib.Decide.{decLe}
 use native.Mathlib.Omega.{arith}
@@ -14,7 +14,7 @@ use Rattle.score_state.specs.Points.{hits, points, gap, countsOf}
 use Rattle.score_state.specs.Given.{or, missing, givenHits, givenPoints, fill}
 use Rattle.closest_laws.specs.Loops.{Kept, each, offer, scan, nearer}
 use Rattle.closest_laws.specs.Closest.{Play, provided, weights, ceiling, resultOf, splitAt, solveTwo, solve, optimizeTwoMissing}
-use Rattle.closest_laws.proofs.Scan.{mem-each, each-mem, scan-all, scan-made}
+use Rattle.closest_laws.proofs.Scan.{scan-all, scan-made}
 use Rattle.closest_laws.proofs.LastThree.{nearer-self, nearer-trans, gap-rises}
 
 -- ---- a quotient rounded up

@@ -4,7 +4,7 @@
 -- Rust's difference is negative and `.max(0.0)` or a cast to u32 makes it 0; `saturating_sub` is `-`. `span` is what a loop
 -- `lo..=hi` runs through: all of it in the Rust's search, which is `range`.
 use Prim.Native.Nat.{ℕ, zero, suc, _+_, _-_, _*_, _/_, min}
-use mathlib.Core.Bool.{Bool, true, false, cond}
+use mathlib.Core.Bool.{cond}
 use mathlib.Core.List.{List, [], _∷_}
 use mathlib.Core.Option.{Option, none, some}
 use lib.Dec.{ltb, eqb}
@@ -19,7 +19,7 @@ use Rattle.score_state.specs.declared.HitResults.{HitResults}
 use Rattle.inspect.specs.Inspect.{Inspect, totalHits, misses, remain}
 use Rattle.inspect.specs.Target.{target}
 use Rattle.inspect.specs.Answers.{Answer, worked, refused}
-use Rattle.closest_laws.specs.Loops.{range, firstTwo, each, Kept, offer, scan, nearer}
+use Rattle.closest_laws.specs.Loops.{range, firstTwo, each, Kept, scan, nearer}
 
 -- ---- numbers
 

@@ -2,8 +2,8 @@
 -- numbers, refuses by 7, 8, 10 to 14 with no counts". An answer's values are n320, n300, n200, n100, n50, misses, tried, as in an
 -- answer of a sheet ("tried is 0 for methods 0 to 2").
 use Prim.Native.Nat.{ℕ, zero, suc}
-use mathlib.Core.Bool.{Bool, true, false, cond}
-use mathlib.Core.List.{List, [], _∷_, _++_}
+use mathlib.Core.Bool.{cond}
+use mathlib.Core.List.{[], _∷_, _++_}
 use mathlib.Core.Option.{Option, none, some}
 use lib.Dec.{eqb}
 use lib.Ieee.{Float}

@@ -11,7 +11,6 @@ use Rattle.inspect.specs.Inspect.{Inspect, inspectOf, totalHits, misses,
 use Rattle.inspect.specs.Target.{target}
 use Rattle.inspect.specs.Checks.{stopOf}
 use Rattle.inspect.specs.declared.Query.{Query}
-use Rattle.inspect.specs.declared.RoundedTarget.{RoundedTarget}
 use Rattle.inspect.specs.declared.TargetAnswer.{TargetAnswer}
 use Rattle.inspect.specs.declared.TargetAnswer.the-variants.{Is, Refused}
 

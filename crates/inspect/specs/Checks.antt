@@ -2,7 +2,7 @@
 -- count over 1,000,000"; 11 "acc outside 0 to 1"; and Records: "A given count, misses too, is at most 1,000,000; passed is any
 -- u32. acc lies in 0 to 1; -0.0 counts as 0, NaN is outside."
 use Prim.Native.Nat.{ℕ, _≤_}
-use mathlib.Core.Bool.{Bool, true, false, not, cond, _&&_, _||_}
+use mathlib.Core.Bool.{Bool, false, not, cond, _&&_, _||_}
 use mathlib.Core.Option.{Option, none, some}
 use lib.Dec.{T, ltb}
 use lib.Ieee.{Float, le}

@@ -1,8 +1,8 @@
 -- The three fillings are the walk: of no missing weight, of one, and of more.
-use Prim.Native.Nat.{ℕ, zero, suc, _+_, _-_, _*_, _<_, _≤_}
-use mathlib.Core.Bool.{Bool, true, false, cond, _||_}
+use Prim.Native.Nat.{ℕ, _+_, _-_, _*_, _≤_}
+use mathlib.Core.Bool.{Bool, true, false}
 use mathlib.Core.List.{List, [], _∷_, head-eq-of-cons-eq}
-use mathlib.Core.Option.{Option, none, some}
+use mathlib.Core.Option.{none}
 use mathlib.Core.Path.{_≡_, refl, sym, ap, ap₂, _∙_, subst}
 use lib.ListN.{length}
 use native.Mathlib.Nat.{mul-le-mul-right}
@@ -16,8 +16,8 @@ use Rattle.nearest_laws.specs.Walk.{Middle, Best, start, over, better, offer, s
 use Rattle.nearest_laws.specs.Places.{slotOf, Slot, places}
 use Rattle.nearest_laws.proofs.Near.{last-lt}
 use Rattle.nearest_laws.proofs.Places.{slot-good, none-placed, one-placed, five-placed}
-use Rattle.nearest.specs.Code.{view, spreadOf, middleOf, ms3, Steady}
-use Rattle.nearest.specs.Presence.{givensOf, absent, firstOf, blanks, Planned, placesOf, Walked}
+use Rattle.nearest.specs.Code.{view, ms3, Steady}
+use Rattle.nearest.specs.Presence.{givensOf, absent, firstOf, blanks, Planned, Walked}
 use Rattle.nearest.specs.declared.Best.{Best as BestCode}
 use Rattle.nearest.specs.declared.Plan.{Plan}
 use Rattle.nearest.proofs.Known.{blanks-missing, absent-is}

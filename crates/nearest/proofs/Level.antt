@@ -4,8 +4,7 @@ use Prim.Native.Nat.{ℕ, _+_, _-_, _*_, _<_, _≤_, min}
 use mathlib.Core.Bool.{true}
 use mathlib.Core.List.{List, _∷_}
 use mathlib.Core.Path.{_≡_}
-use native.Mathlib.Omega.{arith}
-use Rattle.nearest_laws.specs.Walk.{Try, Middle, over, settle, rows}
+use Rattle.nearest_laws.specs.Walk.{Middle, over, settle, rows}
 use Rattle.nearest_laws.proofs.Steps.{Going, going-start, going-on, going-over, going-end, going-count, level-rows, room-step}
 use Rattle.nearest.specs.Code.{view, settingsOf, rowOf, middleOf, Room, Ready}
 use Rattle.nearest.specs.declared.Middle.{Middle as MiddleCode}

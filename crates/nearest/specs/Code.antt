@@ -1,6 +1,5 @@
 -- The code's values as those of Nearest's definition (crate nearest_laws), and what the code's functions ask.
 use Prim.Native.Nat.{ℕ, _+_, _-_, _*_, _<_}
-use mathlib.Core.Path.{_≡_}
 use mathlib.Core.List.{List, [], _∷_, _++_}
 use Rattle.score_state.specs.declared.Hits.{Hits}
 use Rattle.score_state.specs.declared.Points.{Points}

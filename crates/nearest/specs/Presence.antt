@@ -1,11 +1,11 @@
 -- The query's five optional counts as the code holds them: a presence number, whose bits 1, 2, 4, 8, 16 stand for n320, n300, n200,
 -- n100, n50 and whose higher bits are not looked at, and five numbers, of which a missing count's is not looked at.
 use Prim.Native.Nat.{ℕ, zero, suc, _+_, _*_, _%_, _≤_}
-use mathlib.Core.Bool.{Bool, cond, not, _&&_, _||_}
+use mathlib.Core.Bool.{cond, _&&_}
 use mathlib.Core.List.{List, [], _∷_}
 use mathlib.Core.Option.{Option, none, some}
 use mathlib.Core.Path.{_≡_}
-use lib.Dec.{eqb, ltb}
+use lib.Dec.{eqb}
 use Rattle.score_state.specs.Points.{weightsOf, countsOf}
 use Rattle.score_state.specs.Given.{or, missing, fill}
 use Rattle.score_state.specs.declared.HitResults.{HitResults}
@@ -13,7 +13,7 @@ use Rattle.score_state.specs.declared.Hits.{Hits}
 use Rattle.score_state.specs.declared.Points.{Points}
 use Rattle.score_state.specs.declared.Weights.{Weights}
 use Rattle.inspect.specs.Presence.{has, given}
-use Rattle.nearest_laws.specs.Walk.{Middle, walk, lastOf, Falling}
+use Rattle.nearest_laws.specs.Walk.{walk, lastOf, Falling}
 use Rattle.nearest_laws.specs.Nearest.{Weighting, Found, Answer}
 use Rattle.nearest_laws.specs.Places.{slotOf, places}
 use Rattle.nearest.specs.Code.{middleOf}

@@ -503,47 +503,17 @@ fn placed(
     let n300 = spread.n300;
     let n200 = spread.n200;
     let n100 = spread.n100;
+    let has_n320 = inspect::is_given(presence, 1);
+    let has_n300 = inspect::is_given(presence, 2);
+    let has_n200 = inspect::is_given(presence, 4);
+    let has_n100 = inspect::is_given(presence, 8);
+    let has_n50 = inspect::is_given(presence, 16);
     HitResults {
-        n320: place_of(
-            plan,
-            spread,
-            inspect::is_given(presence, 1),
-            weights.n320,
-            known.n320,
-            none,
-        ),
-        n300: place_of(
-            plan,
-            spread,
-            inspect::is_given(presence, 2),
-            weights.n300,
-            known.n300,
-            n300,
-        ),
-        n200: place_of(
-            plan,
-            spread,
-            inspect::is_given(presence, 4),
-            weights.n200,
-            known.n200,
-            n200,
-        ),
-        n100: place_of(
-            plan,
-            spread,
-            inspect::is_given(presence, 8),
-            weights.n100,
-            known.n100,
-            n100,
-        ),
-        n50: place_of(
-            plan,
-            spread,
-            inspect::is_given(presence, 16),
-            weights.n50,
-            known.n50,
-            none,
-        ),
+        n320: place_of(plan, spread, has_n320, weights.n320, known.n320, none),
+        n300: place_of(plan, spread, has_n300, weights.n300, known.n300, n300),
+        n200: place_of(plan, spread, has_n200, weights.n200, known.n200, n200),
+        n100: place_of(plan, spread, has_n100, weights.n100, known.n100, n100),
+        n50: place_of(plan, spread, has_n50, weights.n50, known.n50, none),
         misses: 0,
     }
 }

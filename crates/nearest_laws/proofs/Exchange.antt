@@ -1,9 +1,8 @@
 -- The exchange behind q, for all weights a > b > c: q hits at b are worth (b - c) / g hits at a and (a - b) / g at c.
-use Prim.Native.Nat.{ℕ, zero, suc, _+_, _-_, _*_, _/_, _%_, _<_, _≤_, _∣_, zero-le, suc-le-suc}
+use Prim.Native.Nat.{ℕ, zero, suc, _+_, _-_, _*_, _/_, _%_, _<_, _≤_, _∣_}
 use mathlib.Core.Path.{_≡_, refl, sym, ap, ap₂, _∙_, subst₂}
-use mathlib.Core.Bool.{Bool, true, false, cond}
 use lib.Dec.{eqb, eqb·suc-zero}
-use native.Mathlib.Nat.{dvd-refl, dvd-zero, dvd-mod-iff, dvd-trans, mod-lt, mul-div-cancel', dvd-sub, mul-add, add-mul, mul-comm, mul-assoc, mul-left-comm, eq-of-mul-eq-mul-left, mul-zero, zero-mul, div-add-mod', div-le-self}
+use native.Mathlib.Nat.{dvd-refl, dvd-zero, dvd-mod-iff, mod-lt, mul-div-cancel', dvd-sub, mul-add, add-mul, mul-comm, mul-assoc, mul-left-comm, eq-of-mul-eq-mul-left, mul-zero, zero-mul, div-add-mod', div-le-self}
 use native.Mathlib.Omega.{arith}
 use Rattle.nearest_laws.specs.Walk.{gcdIn, gcd, stride, Middle}
 

@@ -1,22 +1,22 @@
 -- What demand 3 says of Nearest, for every weighting, the optional counts of a query, target and remaining hits.
-use Prim.Native.Nat.{ℕ, zero, suc, _+_, _-_, _*_, _<_, _≤_, _^_}
-use mathlib.Core.Path.{_≡_, refl, sym, ap, ap₂, _∙_, subst}
-use mathlib.Core.Bool.{Bool, true, false, not, cond, _&&_, _||_, true≢false}
+use Prim.Native.Nat.{ℕ, _-_, _≤_}
+use mathlib.Core.Path.{_≡_, refl, sym, ap, _∙_, subst}
+use mathlib.Core.Bool.{Bool, true, false, not, cond, _&&_, _||_}
 use mathlib.Core.List.{List, [], _∷_}
 use mathlib.Core.Logic.{_↔_, ⊎-elim}
 use mathlib.Core.Option.{Option, none, some, Option·some-injective, Option·none-ne-some}
 use lib.Dec.{eqb, ltb}
 use lib.ListN.{length}
 use native.Mathlib.Omega.{arith}
-use borrow.Author.Tests.{ltb-true, ltb-false, eqb-true, eqb-false, eq-eqb, not-true, not-false}
+use borrow.Author.Tests.{ltb-true, ltb-false, eqb-true, eqb-false, not-true, not-false}
 use Rattle.score_state.specs.Points.{points, gap, standard}
 use Rattle.score_state.specs.Given.{missing, givenHits, givenPoints, fill}
-use Rattle.nearest_laws.specs.Walk.{walk, product, middlesOf, Falling, Falls}
+use Rattle.nearest_laws.specs.Walk.{walk, Falling, Falls}
 use Rattle.nearest_laws.specs.Split.{IsSplit}
 use Rattle.nearest_laws.specs.Nearest.{Weighting, standard-weighting, fold, allGiven, stops, Found, found, nearest}
 use Rattle.nearest_laws.proofs.Near.{neither, either, both-true}
 use Rattle.nearest_laws.proofs.Fill.{Nearest, walk-nearest, fill-split, fill-near, given-le, given-all}
-use Rattle.nearest_laws.proofs.Fold.{FoldCase, fold-case, fold-hits, fold-points, fold-long, fold-split, fold-like, fold-given, fold-falls}
+use Rattle.nearest_laws.proofs.Fold.{fold-case, fold-hits, fold-points, fold-long, fold-split, fold-like, fold-given, fold-falls}
 
 -- ---- What check 14 leaves.
 

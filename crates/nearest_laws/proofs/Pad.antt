@@ -1,13 +1,12 @@
 -- A position that is no middle, walked with stride 1, changes nothing but a 0 among the counts.
-use Prim.Native.Nat.{ℕ, zero, suc, _+_, _-_, _*_, _<_, _≤_, min}
-use mathlib.Core.Path.{_≡_, refl, sym, ap, ap₂, _∙_, fun-ext}
+use Prim.Native.Nat.{ℕ, zero, suc, _+_, _-_, _*_, min}
+use mathlib.Core.Path.{_≡_, refl, sym, ap, ap₂, _∙_}
 use mathlib.Core.Bool.{Bool, true, false, cond}
 use mathlib.Core.List.{List, [], _∷_, _++_, map, append-assoc, append-nil}
 use lib.Dec.{ltb}
 use native.Mathlib.Nat.{zero-min, mul-zero, add-zero, sub-zero}
-use native.Mathlib.Omega.{arith}
 use Rattle.score_state.specs.Points.{gap}
-use Rattle.nearest_laws.specs.Walk.{Middle, Try, Best, start, over, better, offer, settle, rows, lowest, trial, pair, settings, lastOf, initOf, middlesOf, candidates, walk}
+use Rattle.nearest_laws.specs.Walk.{Middle, Try, Best, start, over, better, offer, settle, rows, lowest, trial, pair, settings, lastOf, middlesOf, candidates, walk}
 
 -- the second list is the first with positions put in that are no middles
 pub data Pads : List Middle → List Middle → Type 0 where

@@ -1,11 +1,11 @@
 -- The whole walk over three places: how many candidates it tries, and that its start may hold any counts.
-use Prim.Native.Nat.{ℕ, suc, _+_, _*_, _<_, _≤_}
+use Prim.Native.Nat.{ℕ, _*_, _<_, _≤_}
 use mathlib.Core.Path.{_≡_, refl}
-use mathlib.Core.List.{List, [], _∷_}
+use mathlib.Core.List.{[], _∷_}
 use lib.ListN.{length}
-use native.Mathlib.Nat.{mul-le-mul, le-trans}
+use native.Mathlib.Nat.{mul-le-mul}
 use native.Mathlib.Omega.{arith}
-use Rattle.nearest_laws.specs.Walk.{Middle, Try, Best, start, settle, settings, product}
+use Rattle.nearest_laws.specs.Walk.{Middle, Best, start, settle, settings, product}
 use Rattle.nearest_laws.specs.Places.{Slot}
 use Rattle.nearest_laws.proofs.Near.{settings-some}
 use Rattle.nearest_laws.proofs.Bound.{settle-tried, settings-length}

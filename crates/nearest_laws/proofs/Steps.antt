@@ -1,9 +1,9 @@
 -- The walk over a list, a step at a time, and a loop of it.
-use Prim.Native.Nat.{ℕ, zero, suc, _+_, _-_, _*_, _/_, _<_, _≤_, min}
-use mathlib.Core.Path.{_≡_, refl, sym, ap, _∙_, subst}
+use Prim.Native.Nat.{ℕ, zero, suc, _+_, _-_, _*_, _<_, _≤_, min}
+use mathlib.Core.Path.{_≡_, refl, sym, ap, _∙_}
 use mathlib.Core.Bool.{Bool, true, false, cond}
 use mathlib.Core.List.{List, [], _∷_, _++_, List·Memᴰ, List·Memᴰ·not-nil}
-use native.Mathlib.Nat.{le-refl, le-trans, sub-eq-zero-of-le, zero-div, min-zero, mul-add, mul-le-mul-right, sub-zero}
+use native.Mathlib.Nat.{le-refl, sub-eq-zero-of-le, zero-div, min-zero, mul-add, mul-le-mul-right, sub-zero}
 use native.Mathlib.Numerals.{add-one}
 use native.Mathlib.Omega.{arith}
 use borrow.Author.Tests.{lt-ltb, le-ltb}

@@ -1,22 +1,21 @@
 -- What demand 3 says of `tried`: it is the walk's, by the definition of `nearest`, and so large at most.
-use Prim.Native.Nat.{ℕ, zero, suc, _+_, _-_, _*_, _^_, _<_, _≤_, zero-le}
-use mathlib.Core.Path.{_≡_, refl, sym, ap, _∙_, subst}
+use Prim.Native.Nat.{ℕ, zero, suc, _+_, _-_, _*_, _^_, _≤_, zero-le}
+use mathlib.Core.Path.{_≡_, refl, ap, subst}
 use mathlib.Core.Bool.{Bool, true, false, cond, _&&_}
 use mathlib.Core.List.{List, [], _∷_, map}
 use mathlib.Core.Option.{Option, none, some}
 use lib.Dec.{eqb, leb}
 use lib.ListN.{length}
-use native.Mathlib.Nat.{le-trans, le-refl, mul-le-mul, pow-succ', one-le-pow}
+use native.Mathlib.Nat.{le-trans, mul-le-mul, pow-succ', one-le-pow}
 use native.Mathlib.Omega.{arith}
 use borrow.Author.Tests.{leb-true}
 use Rattle.score_state.specs.Points.{standard}
 use Rattle.score_state.specs.Given.{missing, givenHits, givenPoints}
-use Rattle.nearest_laws.specs.Walk.{Middle, gcdIn, gcd, stride, lastOf, initOf, middles, middlesOf, product, Falling}
+use Rattle.nearest_laws.specs.Walk.{gcdIn, gcd, stride, lastOf, initOf, middles, middlesOf, product, Falling}
 use Rattle.nearest_laws.specs.Nearest.{Weighting, standard-weighting, fold, Found, found, nearest}
 use Rattle.nearest_laws.proofs.Near.{both-true}
 use Rattle.nearest_laws.proofs.Exchange.{stride-le}
 use Rattle.nearest_laws.proofs.Bound.{walk-bound}
-use Rattle.nearest_laws.proofs.Fold.{fold-case, fold-long}
 use Rattle.nearest_laws.proofs.Nearest.{weighting-falls, falls, answered, and-true}
 
 -- "at most 2 times the product of the q's"

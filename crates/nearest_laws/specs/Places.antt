@@ -1,7 +1,7 @@
 -- Document 01, Nearest, step 2, with a place for each of the five judgements: where a missing one is no middle, or a count is
 -- given, the place is walked with one count only, 0, so that three loops serve every set of missing judgements.
 use Prim.Native.Nat.{ℕ, suc, _<_, _≤_}
-use mathlib.Core.Bool.{Bool, cond, _&&_}
+use mathlib.Core.Bool.{cond, _&&_}
 use mathlib.Core.List.{List, [], _∷_}
 use mathlib.Core.Option.{Option, none, some}
 use lib.Dec.{ltb, eqb}

@@ -1,11 +1,11 @@
 -- From the target up, more points are never nearer: `distance` of two ratios, as floats. Assumes nothing.
 use mathlib.Core.Path.{_≡_, refl, sym, ap, _∙_, subst}
-use Prim.Native.Nat.{ℕ, _+_, _-_, _*_, _^_, _≤_, _<_, zero-le}
+use Prim.Native.Nat.{ℕ, _-_, _*_, _^_, _≤_, _<_, zero-le}
 use native.Mathlib.Nat.{le-of-mul-le-mul-right, mul-le-mul-right, le-of-lt, le-of-eq, le-trans, lt-of-lt-of-le, lt-of-le-of-lt, mul-pos, mul-one, zero-mul, mul-comm, mul-assoc, mul-right-comm, mul-sub, sub-le, le-mul-of-pos-right}
 use native.Mathlib.Omega.{arith}
 use mathlib.Core.Bool.{Bool, true, false, cond, true≢false}
 use borrow.Author.Tests.{lt-ltb, le-ltb, ltb-true}
-use lib.IntN.{ℤ, pos}
+use lib.IntN.{pos}
 use lib.Dec.{T, ltb, lit<, lit≤}
 use lib.Pow.{pow-pos}
 use lib.Ieee.{Float, nan, inf, fin, binary64, low, up, down, round, neg, sum, sub, lt, le}
@@ -16,7 +16,7 @@ use lib.Ieee.Order.{round-mono}
 use lib.Ieee.Scale.{round-same, round-under, round-val, grid}
 use Rattle.rounding.specs.Round.{zero64}
 use Rattle.rounding.specs.Distance.{distance, ratio}
-use Rattle.rounding.proofs.Floats.{ltb-same, lt-value, le-value, rounded-within}
+use Rattle.rounding.proofs.Floats.{lt-value, le-value, rounded-within}
 use Rattle.rounding.proofs.Distance.{ratio-is, rounded-finite, finite-of}
 
 -- ---- the difference of a / w and b / w, b at most a

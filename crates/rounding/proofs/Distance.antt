@@ -1,11 +1,10 @@
 -- Two facts of `distance` and of `ratio`. Assumes nothing.
 use mathlib.Core.Path.{_≡_, refl, sym, ap, _∙_, subst}
-use Prim.Native.Nat.{ℕ, zero, suc, _+_, _-_, _*_, _^_, _≤_, _<_, zero-le}
-use native.Mathlib.Nat.{le-mul-of-pos-right, ne-of-gt, mul-assoc, mul-comm, mul-left-comm, le-refl, le-of-lt, le-of-eq, le-trans, lt-irrefl, lt-of-lt-of-le, mul-pos, mul-one, one-mul, zero-mul, sub-self}
-use native.Mathlib.Omega.{arith}
-use mathlib.Core.Bool.{Bool, true, false, not, cond, _&&_, _||_, Bool·beq, true≢false}
-use borrow.Author.Tests.{lt-ltb, le-ltb, ltb-true, ltb-false, ne-eqb}
-use lib.IntN.{ℤ, pos}
+use Prim.Native.Nat.{ℕ, zero, _-_, _*_, _^_, _≤_, _<_, zero-le}
+use native.Mathlib.Nat.{le-mul-of-pos-right, ne-of-gt, mul-assoc, mul-comm, mul-left-comm, le-refl, le-of-lt, le-of-eq, le-trans, lt-of-lt-of-le, mul-pos, mul-one, zero-mul, sub-self}
+use mathlib.Core.Bool.{Bool, true, false, not, cond, true≢false}
+use borrow.Author.Tests.{le-ltb, ne-eqb}
+use lib.IntN.{pos}
 use lib.Dec.{T, ltb→lt, ltb, eqb, lit<, lit≤}
 use lib.Ieee.{Float, nan, inf, fin, binary64, up, down, round, neg, sum, sub, div, lt, le, ofInt}
 use lib.Ieee.Fits.{up-pos, down-pos}

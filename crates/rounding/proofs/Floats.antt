@@ -1,23 +1,20 @@
 -- Facts of `lib.Ieee`'s floats that the proofs of this crate cite. Assumes nothing.
 use mathlib.Core.Path.{_≡_, refl, sym, ap, _∙_, subst}
 use Prim.Native.Nat.{ℕ, zero, suc, _+_, _-_, _*_, _/_, _%_, _^_, _≤_, _<_, zero-le, min, compare, Ordering, Ordering·lt, Ordering·eq, Ordering·gt}
-use borrow.Author.Tests.{lt-ltb, ltb-true, ltb-false}
-use native.Mathlib.Nat.{div-one, mod-one, mul-left-comm, mul-le-mul, mul-lt-mul-of-pos-right, mul-pos, le-antisymm, le-add-left, le-add-right, mul-le-mul-right, le-trans, le-of-eq, le-of-lt, lt-of-lt-of-le, lt-of-le-of-lt, not-le-of-lt, lt-of-not-le, add-mul, mul-one, one-mul, mul-comm, mul-assoc, mul-right-comm, div-add-mod', mod-lt, div-lt-iff-lt-mul, pow-suc, zero-mul}
+use native.Mathlib.Nat.{div-one, mod-one, mul-left-comm, mul-le-mul, mul-lt-mul-of-pos-right, mul-pos, le-add-left, mul-le-mul-right, le-trans, le-of-eq, le-of-lt, lt-of-lt-of-le, lt-of-le-of-lt, not-le-of-lt, add-mul, mul-one, one-mul, mul-assoc, div-add-mod', zero-mul}
 use native.Mathlib.Numerals.{add-one}
 use native.Mathlib.Omega.{arith}
-use mathlib.Core.Bool.{Bool, true, false, not, cond, _&&_, _||_, true≢false}
-use lib.IntN.{ℤ, pos, negsuc}
+use mathlib.Core.Bool.{Bool, true, false, not, _&&_, _||_, true≢false}
+use lib.IntN.{ℤ, pos}
 use lib.Dec.{T, isLe, isEq, ltb, eqb, leb→le, nleb→lt, ltb→lt, lt→ltb, nltb→le, eqb→eq, eqb-refl, lit≤, lit<}
-use lib.Pow.{pow-pos, shl-lt}
 use lib.Arith.{lt-of-le-ne}
-use lib.Ieee.{Float, nan, inf, fin, Format, binary64, prec, emax, low, up, down, nearest, round, mul, lt, le, ofInt, ofBits, toUnsigned}
-use lib.Ieee.Fits.{up-pos, down-pos, and-l, and-r}
-use lib.Ieee.Exact.{HasValue, round-exact}
+use lib.Ieee.{Float, nan, inf, fin, binary64, up, down, nearest, round, mul, lt, le, ofInt}
+use lib.Ieee.Fits.{down-pos, and-l}
+use lib.Ieee.Exact.{HasValue}
 use lib.Ieee.Back.{round-whole}
 use lib.Ieee.Nearest.{closest, closest-mono}
 use lib.Ieee.Order.{transfer, round-mono}
 use lib.Ieee.Scale.{round-same}
-use lib.Ieee.Positive.{positive, positive-of-value, mul-at}
 use Rattle.rounding.specs.Round.{roundEven, zero64}
 
 -- ---- what `compare` says, and so which of three numbers `nearest` picks

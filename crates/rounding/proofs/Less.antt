@@ -2,14 +2,14 @@
 use mathlib.Core.Path.{_≡_, refl, sym, ap, _∙_, subst}
 use Prim.Native.Nat.{ℕ, _+_, _*_, _≤_, _<_, zero-le}
 use mathlib.Core.Logic.{inl, inr}
-use native.Mathlib.Nat.{le-refl, eq-zero-or-pos, lt-irrefl, le-of-lt, le-of-eq, le-trans, lt-of-lt-of-le, lt-of-le-of-lt, lt-of-mul-lt-mul-right, mul-right-comm, mul-le-mul-right, mul-lt-mul-of-pos-right, mul-one, zero-mul, mul-pos, le-add-left, le-add-right}
+use native.Mathlib.Nat.{le-refl, eq-zero-or-pos, lt-irrefl, le-of-lt, le-of-eq, le-trans, lt-of-lt-of-le, lt-of-le-of-lt, lt-of-mul-lt-mul-right, mul-right-comm, mul-le-mul-right, mul-lt-mul-of-pos-right, zero-mul, mul-pos, le-add-left, le-add-right}
 use native.Mathlib.Omega.{arith}
 use mathlib.Core.Bool.{Bool, Bool·beq, true, false, _&&_, _||_, true≢false, false≢true}
 use borrow.Author.Tests.{lt-ltb, le-ltb, ltb-true, ltb-false, eqb-true}
 use lib.IntN.{ℤ}
 use lib.Dec.{ltb, eqb, lit<}
 use lib.Ieee.{Float, nan, inf, fin, up, down, lt, eq}
-use lib.Ieee.Fits.{up-pos, down-pos}
+use lib.Ieee.Fits.{down-pos}
 use lib.Ieee.Positive.{first-pos}
 use Rattle.rounding.specs.Round.{zero64}
 

@@ -2,7 +2,7 @@
 -- count times weight", and Target: "Counts of any method lie as far from it as the size of points − T".
 -- Counts and weights are lists, from n320 to n50, so that what is said of them holds for any weights.
 use Prim.Native.Nat.{ℕ, _+_, _-_, _*_, _≤_}
-use mathlib.Core.Bool.{Bool, true, false, cond}
+use mathlib.Core.Bool.{Bool, cond}
 use mathlib.Core.List.{List, [], _∷_}
 use Rattle.score_state.specs.declared.HitResults.{HitResults}
 use Rattle.score_state.specs.declared.Weights.{Weights}

@@ -4,7 +4,7 @@ use mathlib.Core.Path.{_≡_, refl, sym, _∙_, ap}
 use mathlib.Core.Option.{Option}
 use mathlib.Core.List.{[], _∷_}
 use native.Mathlib.Omega.{arith}
-use Rattle.closest_laws.specs.Loops.{Kept, range, each, offer, scan, nearer}
+use Rattle.closest_laws.specs.Loops.{Kept, range, each, scan, nearer}
 use Rattle.closest_laws.specs.Closest.{Last, lastAt}
 use Rattle.closest_laws.proofs.Steps.{loop-step, loop-end, all-is}
 use Rattle.closest.specs.Code.{nearView}

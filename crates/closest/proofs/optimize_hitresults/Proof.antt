@@ -1,5 +1,5 @@
 -- `closest::optimize_hitresults` meets its contract. Assumes nothing.
-use mathlib.Core.Path.{_≡_, sym, _∙_}
+use mathlib.Core.Path.{sym, _∙_}
 use native.Mathlib.Nat.{le-of-eq, lt-of-lt-of-le}
 use native.Mathlib.Omega.{arith}
 use Rattle.closest_laws.specs.Presence.{lacking}

@@ -1,6 +1,6 @@
 -- `closest::optimize_three_plus_missing` meets its contract: the loop offers the rows of its span in turn, and the first two rows
 -- are enough. Assumes nothing.
-use Prim.Native.Nat.{ℕ, _+_, _-_}
+use Prim.Native.Nat.{_+_, _-_}
 use mathlib.Core.Path.{_≡_, refl, sym, _∙_, ap}
 use native.Mathlib.Omega.{arith}
 use lib.Ieee.{Float, lt}

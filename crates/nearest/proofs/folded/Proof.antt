@@ -1,7 +1,6 @@
 -- `folded` is step 1 on the presence number.
 use Prim.Native.Nat.{_%_}
 use native.Mathlib.Omega.{arith}
-use borrow.Author.Needs.{needs}
 use borrow.Author.Tests.{eq-eqb, ne-eqb}
 use Rattle.nearest.specs.Presence.{foldedOf}
 use Rattle.nearest.proofs.folded.Statement.{statement}

@@ -1,10 +1,8 @@
 -- `found` is the walk's split.
 use Prim.Native.Nat.{ℕ}
 use mathlib.Core.List.{List}
-use mathlib.Core.Path.{_∙_, ap, ap₂, sym}
+use mathlib.Core.Path.{_∙_, ap, ap₂}
 use borrow.Author.Needs.{needs}
-use Rattle.score_state.specs.Given.{fill}
-use Rattle.score_state.specs.declared.Points.{Points}
 use Rattle.nearest_laws.specs.Nearest.{Found}
 use Rattle.nearest_laws.specs.Walk.{walk}
 use Rattle.nearest.specs.Presence.{walkedOf}

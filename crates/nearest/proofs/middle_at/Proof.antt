@@ -3,7 +3,6 @@ use Prim.Native.Nat.{ℕ}
 use mathlib.Core.Path.{sym, _∙_, ap}
 use borrow.Author.Needs.{needs}
 use Rattle.nearest_laws.specs.Places.{slotOf}
-use Rattle.nearest_laws.specs.Walk.{Middle}
 use Rattle.nearest_laws.proofs.Places.{slot-heavy, slot-light, slot-middle}
 use Rattle.nearest.proofs.middle_at.Statement.{statement}
 use Rattle.nearest.proofs.middle_at.Tie as tie

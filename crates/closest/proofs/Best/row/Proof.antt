@@ -1,5 +1,5 @@
 -- `closest::Best::row` meets its contract: the loop offers the candidates of its span in turn. Assumes nothing.
-use Prim.Native.Nat.{ℕ, _+_, _-_}
+use Prim.Native.Nat.{_+_, _-_}
 use mathlib.Core.Path.{_≡_, refl, sym, _∙_, ap}
 use native.Mathlib.Omega.{arith}
 use lib.Ieee.{Float, lt}
