@@ -347,8 +347,9 @@ fn three_or_fewer(q: Query, acc: f64, remain: Hits, misses: Hits, p: Prelim) -> 
     add_left(q, total, hitresults)
 }
 
-// With an accuracy: five zeros where nothing remains; else by how many counts are provided.
-fn with_acc(q: Query, acc: f64) -> HitResults
+// With an accuracy: five zeros where nothing remains; else by how many counts are provided. `generate` calls it where it has the
+// accuracy in hand.
+pub fn with_acc(q: Query, acc: f64) -> HitResults
     requires { ⌜ T (Ieee.le zero64 acc) ⌝ ∗ ⌜ T (Ieee.le acc one64) ⌝ }
     requires { ⌜ Domain q ⌝ }
     ensures { λ r. ⌜ r ≡ Fast.withAcc acc (inspectOf q) ⌝ }

@@ -1,15 +1,17 @@
 // The trait `HitResultGenerator`, recast: a call for each of the four generators, and the direct call, which takes the method as a
 // number. No call asks anything of its caller: each refuses by 7, 8, 10 and 11 in that order, then by its method's own numbers.
 ghost use mathlib.Core.Path.{_≡_};
+ghost use Prim.Native.Nat.{_<_};
 ghost use mathlib.Core.Option.{some};
 ghost use lib.Dec.{T};
 ghost use lib.Ieee as Ieee;
 ghost use Rattle.rounding.specs.Round.{zero64, one64};
-ghost use Rattle.inspect.specs.Inspect.{inspectOf};
+ghost use Rattle.inspect.specs.Inspect.{inspectOf, accOf};
 ghost use Rattle.inspect.specs.Checks.{Domain};
-ghost use Rattle.generate_laws.specs.Generate.{untried, nearestOf, answerBy, generateAnswer};
+ghost use Rattle.generate_laws.specs.Generate.{untried, nearestOf, byMethod, answerBy, generateAnswer};
 ghost use Rattle.closest_laws.specs.Closest.{closestAt};
 ghost use Rattle.generate.specs.Generated.{generatedOf};
+ghost use Rattle.generate.specs.Code.{ignoresAcc};
 use closest::Closest;
 use inspect::Accuracy;
 use inspect::Query;
@@ -22,28 +24,6 @@ pub enum Generated {
     Refused(u32),
 }
 
-// Method 0, IgnoreAccuracy.
-pub fn by_ignore_acc(q: Query) -> Generated
-    ensures { λ r. ⌜ generatedOf r ≡ answerBy 0 q ⌝ }
-{
-    let stop = inspect::stop_of(q);
-    if stop > 0 {
-        return Generated::Refused(stop);
-    }
-    Generated::Counts(ignore_acc::generate_hitresults(q), 0)
-}
-
-// Method 1, Fast.
-pub fn by_fast(q: Query) -> Generated
-    ensures { λ r. ⌜ generatedOf r ≡ answerBy 1 q ⌝ }
-{
-    let stop = inspect::stop_of(q);
-    if stop > 0 {
-        return Generated::Refused(stop);
-    }
-    Generated::Counts(fast::generate_hitresults(q), 0)
-}
-
 // Closest at a given accuracy.
 fn closest_counts(q: Query, acc: f64) -> Generated
     requires { ⌜ Domain q ⌝ }
@@ -53,21 +33,6 @@ fn closest_counts(q: Query, acc: f64) -> Generated
     match closest::closest_at(q, acc) {
         Closest::Counts(counts) => Generated::Counts(counts, 0),
         Closest::Overfull => Generated::Refused(12),
-    }
-}
-
-// Method 2, Closest: without an accuracy it is method 0; 12 where the Rust overflows.
-pub fn by_closest(q: Query) -> Generated
-    ensures { λ r. ⌜ generatedOf r ≡ answerBy 2 q ⌝ }
-{
-    let stop = inspect::stop_of(q);
-    if stop > 0 {
-        return Generated::Refused(stop);
-    }
-    let a = q.acc;
-    match a {
-        Accuracy::Given(acc) => closest_counts(q, acc),
-        Accuracy::Absent => Generated::Counts(ignore_acc::generate_hitresults(q), 0),
     }
 }
 
@@ -101,30 +66,80 @@ fn nearest_counts(q: Query, acc: f64) -> Generated
     }
 }
 
-// Method 3, Nearest: 13 without an accuracy, 14 where no split exists.
-pub fn by_nearest(q: Query) -> Generated
-    ensures { λ r. ⌜ generatedOf r ≡ answerBy 3 q ⌝ }
+// Methods 1 to 3 at the query's accuracy.
+fn at_acc(q: Query, method: u8, acc: f64) -> Generated
+    requires { ⌜ Domain q ⌝ }
+    requires { ⌜ T (Ieee.le zero64 acc) ⌝ ∗ ⌜ T (Ieee.le acc one64) ⌝ }
+    requires { ⌜ (0 < method) × ((inspectOf q) .acc ≡ some acc) ⌝ }
+    ensures { λ r. ⌜ generatedOf r ≡ byMethod method (inspectOf q) ⌝ }
+{
+    match method {
+        1 => Generated::Counts(fast::with_acc(q, acc), 0),
+        2 => closest_counts(q, acc),
+        _ => nearest_counts(q, acc),
+    }
+}
+
+// Whether the counts are IgnoreAccuracy's: by method 0, and without an accuracy by methods 1 and 2.
+fn ignores_acc(method: u8, acc: Accuracy) -> bool
+    ensures { λ r. ⌜ r ≡ ignoresAcc method (accOf acc) ⌝ }
+{
+    match acc {
+        Accuracy::Given(_) => method == 0,
+        Accuracy::Absent => method < 3,
+    }
+}
+
+// The checks that every method shares, then a method, whatever the query's own. Each generator is called in one place: so the
+// compiler builds them into one function, in which the query is never copied.
+fn by_method(q: Query, method: u8) -> Generated
+    ensures { λ r. ⌜ generatedOf r ≡ answerBy method q ⌝ }
 {
     let stop = inspect::stop_of(q);
     if stop > 0 {
         return Generated::Refused(stop);
     }
     let a = q.acc;
+    if ignores_acc(method, a) {
+        return Generated::Counts(ignore_acc::generate_hitresults(q), 0);
+    }
     match a {
-        Accuracy::Given(acc) => nearest_counts(q, acc),
+        Accuracy::Given(acc) => at_acc(q, method, acc),
         Accuracy::Absent => Generated::Refused(13),
     }
+}
+
+// Method 0, IgnoreAccuracy.
+pub fn by_ignore_acc(q: Query) -> Generated
+    ensures { λ r. ⌜ generatedOf r ≡ answerBy 0 q ⌝ }
+{
+    by_method(q, 0)
+}
+
+// Method 1, Fast: without an accuracy it is method 0.
+pub fn by_fast(q: Query) -> Generated
+    ensures { λ r. ⌜ generatedOf r ≡ answerBy 1 q ⌝ }
+{
+    by_method(q, 1)
+}
+
+// Method 2, Closest: without an accuracy it is method 0; 12 where the Rust overflows.
+pub fn by_closest(q: Query) -> Generated
+    ensures { λ r. ⌜ generatedOf r ≡ answerBy 2 q ⌝ }
+{
+    by_method(q, 2)
+}
+
+// Method 3, Nearest: 13 without an accuracy, 14 where no split exists.
+pub fn by_nearest(q: Query) -> Generated
+    ensures { λ r. ⌜ generatedOf r ≡ answerBy 3 q ⌝ }
+{
+    by_method(q, 3)
 }
 
 // The direct call: the query's method is 0 IgnoreAccuracy, 1 Fast, 2 Closest or 3 Nearest.
 pub fn generate(q: Query) -> Generated
     ensures { λ r. ⌜ generatedOf r ≡ generateAnswer q ⌝ }
 {
-    let method = q.method;
-    match method {
-        0 => by_ignore_acc(q),
-        1 => by_fast(q),
-        2 => by_closest(q),
-        _ => by_nearest(q),
-    }
+    by_method(q, q.method)
 }

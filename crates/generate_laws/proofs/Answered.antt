@@ -9,13 +9,17 @@ use lib.Dec.{eqb}
 use lib.Ieee.{Float}
 use mathlib.Core.List.{List, [], _∷_, _++_}
 use Rattle.score_state.specs.Points.{standard}
-use Rattle.inspect.specs.Inspect.{Inspect, inspectOf, accOf, givens, misses, remain}
+use Rattle.score_state.specs.declared.HitResults.{HitResults}
+use Rattle.inspect.specs.Inspect.{Inspect, inspectOf, givens, misses, remain}
 use Rattle.inspect.specs.Checks.{stopOf}
 use Rattle.inspect.specs.Answers.{Answer, refused, worked, unless}
-use Rattle.inspect.specs.declared.Accuracy.{Accuracy}
 use Rattle.inspect.specs.declared.Query.{Query}
+use Rattle.ignore_acc.specs.IgnoreAcc.{ignoreAcc}
+use Rattle.fast.specs.Fast.{withAcc, byAcc}
+use Rattle.fast.proofs.Steps.{fast-given, fast-absent}
+use Rattle.closest_laws.specs.Closest.{closestAt}
 use Rattle.nearest_laws.specs.Nearest.{Found, nearest, nearestAnswer, Answer as Walked}
-use Rattle.generate_laws.specs.Generate.{byMethod, closestOf, foundOf, nearestOf, answerBy, generateAnswer}
+use Rattle.generate_laws.specs.Generate.{counted, untried, byMethod, closestOf, foundOf, nearestOf, answerBy}
 use Rattle.generate_laws.specs.Method3.{targetOf}
 
 -- a shared check stops the query by n
@@ -30,29 +34,37 @@ worked-by method q n a e h k =
     let z : n ≡ 0 = omega arith in
     k ∙ sym (ap (λ (b : Bool). unless b (stopOf q) (byMethod method (inspectOf q))) (eq-eqb (stopOf q) 0 (sym e ∙ z)))
 
--- methods 2 and 3 by the query's accuracy
-pub closest-by : (q : Query) (x : Accuracy) → q .acc ≡ x → closestOf (inspectOf q) (accOf x) ≡ byMethod 2 (inspectOf q)
+-- method 3, and what check 8 stops
+third : (method : ℕ) (i : Inspect) → 3 ≤ method → nearestOf i (i .acc) ≡ byMethod method i
 unfolding byMethod
-closest-by q x e = ap (λ (y : Accuracy). closestOf (inspectOf q) (accOf y)) (sym e)
+third zero i h = absurd (omega arith)
+third (suc zero) i h = absurd (omega arith)
+third (suc (suc zero)) i h = absurd (omega arith)
+third (suc (suc (suc m))) i h = refl
 
-pub nearest-by : (q : Query) (x : Accuracy) → q .acc ≡ x → nearestOf (inspectOf q) (accOf x) ≡ byMethod 3 (inspectOf q)
+-- ---- the methods at a given accuracy
+pub fast-at : (i : Inspect) (acc : Float) (r : HitResults) → i .acc ≡ some acc → r ≡ withAcc acc i → counted r ≡ byMethod 1 i
 unfolding byMethod
-nearest-by q x e = ap (λ (y : Accuracy). nearestOf (inspectOf q) (accOf y)) (sym e)
+fast-at i acc r e h = ap counted (fast-given i acc r e h)
 
--- the direct call is the call of its method
-pub by-number : (q : Query) (m : ℕ) → q .method ≡ m → answerBy m q ≡ generateAnswer q
-unfolding generateAnswer
-by-number q m e = ap (λ (n : ℕ). answerBy n q) (sym e)
+pub closest-at : (i : Inspect) (acc : Float) (a : Answer) → i .acc ≡ some acc → a ≡ untried (closestAt i acc) → a ≡ byMethod 2 i
+unfolding byMethod closestOf
+closest-at i acc a e h = h ∙ ap (closestOf i) (sym e)
 
-pub by-three : (q : Query) → 3 ≤ q .method → answerBy 3 q ≡ generateAnswer q
-unfolding generateAnswer answerBy
-by-three q h = ap (λ (a : Answer). unless (eqb (stopOf q) 0) (stopOf q) a) (above (q .method) (inspectOf q) h)
-  where
-    above : (m : ℕ) (i : Inspect) → 3 ≤ m → byMethod 3 i ≡ byMethod m i
-    above zero i h = absurd (omega arith)
-    above (suc zero) i h = absurd (omega arith)
-    above (suc (suc zero)) i h = absurd (omega arith)
-    above (suc (suc (suc m))) i h = unfold byMethod in refl
+pub nearest-at : (method : ℕ) (i : Inspect) (acc : Float) (a : Answer) → 3 ≤ method → i .acc ≡ some acc → a ≡ nearestOf i (some acc) → a ≡ byMethod method i
+nearest-at method i acc a l e h = h ∙ ap (nearestOf i) (sym e) ∙ third method i l
+
+-- ---- and without one: methods 0 to 2 are IgnoreAccuracy, and 13
+pub ignored : (method : ℕ) (i : Inspect) → method < 3 → i .acc ≡ none → counted (ignoreAcc i) ≡ byMethod method i
+unfolding byMethod closestOf byAcc
+ignored zero i l e = refl
+ignored (suc zero) i l e = ap counted (fast-absent i (ignoreAcc i) e refl)
+ignored (suc (suc zero)) i l e = ap (closestOf i) (sym e)
+ignored (suc (suc (suc m))) i l e = absurd (omega arith)
+
+pub acc-missing : (method : ℕ) (i : Inspect) → 3 ≤ method → i .acc ≡ none → refused 13 ≡ byMethod method i
+unfolding nearestOf
+acc-missing method i l e = ap (nearestOf i) (sym e) ∙ third method i l
 
 -- ---- Nearest's answer at an accuracy, from what its walk was given
 module _ (i : Inspect) (acc : Float) (ws : List ℕ) (T R m : ℕ) (ew : ws ≡ standard (i .classic)) (et : T ≡ targetOf i acc) (er : R ≡ remain i) (em : m ≡ misses i) where

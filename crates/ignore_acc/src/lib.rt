@@ -86,14 +86,13 @@ impl Filled {
         match count {
             Count::Given(n) => {
                 self.count = n;
-                self
             }
             Count::Missing => {
                 self.count = remain.0;
                 self.remain = nothing;
-                self
             }
         }
+        self
     }
 }
 

@@ -1,0 +1,48 @@
+-- `generate::at_acc` meets its contract. Assumes nothing.
+use Prim.Native.Nat.{ℕ}
+use mathlib.Core.Path.{sym, ap, _∙_}
+use native.Mathlib.Omega.{arith}
+use Rattle.inspect.specs.Inspect.{inspectOf}
+use Rattle.generate_laws.specs.Generate.{byMethod}
+use Rattle.generate_laws.proofs.Answered.{fast-at, closest-at, nearest-at}
+use Rattle.generate.specs.Generated.{generatedOf}
+use borrow.Author.Needs.{needs}
+use Rattle.generate.proofs.at_acc.Statement.{statement}
+use Rattle.generate.proofs.at_acc.Tie as tie
+
+with-acc-requires : tie.Need-with-acc-requires
+with-acc-requires c κs = search needs
+
+closest-counts-requires : tie.Need-closest-counts-requires
+closest-counts-requires c κs = search needs
+
+nearest-counts-requires : tie.Need-nearest-counts-requires
+nearest-counts-requires c κs = search needs
+
+returns : tie.Need-returns
+returns c =
+    let x = c .before .before .args in
+    fast-at (inspectOf (x .q)) (x .acc) (c .with-acc .result) (c .before .before .pre .1 .1 .1 .1) (c .with-acc .ensures)
+    ∙ ap (λ (m : ℕ). byMethod m (inspectOf (x .q))) (sym (c .before .match .keys1))
+
+returns-2 : tie.Need-returns-2
+returns-2 c =
+    let x = c .before .before .args in
+    closest-at (inspectOf (x .q)) (x .acc) (generatedOf (c .closest-counts .result)) (c .before .before .pre .1 .1 .1 .1) (c .closest-counts .ensures)
+    ∙ ap (λ (m : ℕ). byMethod m (inspectOf (x .q))) (sym (c .before .match .keys2))
+
+returns-3 : tie.Need-returns-3
+returns-3 c =
+    let x = c .before .before .args in
+    nearest-at (x .method) (inspectOf (x .q)) (x .acc) (generatedOf (c .nearest-counts .result)) (omega arith) (c .before .before .pre .1 .1 .1 .1) (c .nearest-counts .ensures)
+
+pub at-acc-spec : {M : Type 1} → statement M
+at-acc-spec =
+    tie.close
+    (tie.spec
+    with-acc-requires
+    closest-counts-requires
+    nearest-counts-requires
+    returns
+    returns-2
+    returns-3)
