@@ -1,4 +1,4 @@
--- Document 01, Fast and Closest: "Without acc: method 0." What the code asks before it looks at the accuracy.
+-- Document 01, Closest: "Without acc: method 0."; fast.rs, lines 14 to 16: the same. Asked by the code before it looks at the accuracy.
 use Prim.Native.Nat.{ℕ}
 use mathlib.Core.Bool.{Bool}
 use mathlib.Core.Option.{Option, none, some}
