@@ -1,14 +1,10 @@
 // The calls that C and Rust programs link: numbers and slices only. Their header is include/nuqsillay.h.
 ghost use mathlib.Core.Path.{_≡_};
-ghost use Prim.Native.Nat.{_≤_};
-ghost use lib.ListN.{length};
-ghost use Rattle.inspect.specs.Presence.{has};
 ghost use Rattle.score_state.specs.Accuracy.{accuracyAnswer};
 ghost use Rattle.inspect.specs.Answers.{targetAnswer};
 ghost use Rattle.generate_laws.specs.Generate.{generateAnswer};
-ghost use Rattle.generate.specs.Generated.{generatedOf};
-ghost use Rattle.capi.specs.Exports.{sixCounts, valueOr, lent, handed, targetQuery, accBy, queryBy, sheetLent};
-use generate::Generated;
+ghost use Rattle.direct.specs.Direct.{sixCounts, lent, handed, queryBy};
+ghost use Rattle.capi.specs.Exports.{valueOr, targetQuery, sheetLent};
 use inspect::Accuracy;
 use inspect::Chart;
 use inspect::Query;
@@ -96,37 +92,6 @@ pub extern "C" fn nuqsillay_target(
     }
 }
 
-// The accuracy where its bit of presence, 64, is set.
-fn acc_of(presence: u8, acc: f64) -> Accuracy
-    ensures { λ r. ⌜ r ≡ accBy (has presence 64) acc ⌝ }
-{
-    if inspect::is_given(presence, 64) {
-        Accuracy::Given(acc)
-    } else {
-        Accuracy::Absent
-    }
-}
-
-// An answer's values to the output, which has room for them.
-fn hand(g: Generated, out: &mut [u32]) -> u32
-    requires { ⌜ 7 ≤ length (now out) ⌝ }
-    ensures { λ r. ⌜ lent r (now (out .exit)) ≡ handed 7 (generatedOf g) (now (out .entry)) ⌝ }
-{
-    match g {
-        Generated::Counts(counts, tried) => {
-            out[0] = counts.n320;
-            out[1] = counts.n300;
-            out[2] = counts.n200;
-            out[3] = counts.n100;
-            out[4] = counts.n50;
-            out[5] = counts.misses;
-            out[6] = tried;
-            0
-        }
-        Generated::Refused(n) => n,
-    }
-}
-
 // The direct call: 0 with the five counts, misses and tried in out, or the number that refuses.
 #[no_mangle]
 pub extern "C" fn nuqsillay_generate(
@@ -148,15 +113,9 @@ pub extern "C" fn nuqsillay_generate(
 ) -> u32
     ensures { λ r. ⌜ lent r (now (out .exit)) ≡ handed 7 (generateAnswer (queryBy objects holds method priority classic presence (sixCounts n320 n300 n200 n100 n50 misses) passed acc)) (now (out .entry)) ⌝ }
 {
-    if out.len() < 7 {
-        return 5;
-    }
-    let accuracy = acc_of(presence, acc);
-    let q = Query {
-        chart: Chart {
-            n_objects: objects,
-            n_hold_notes: holds,
-        },
+    direct::generate(
+        objects,
+        holds,
         method,
         priority,
         classic,
@@ -168,9 +127,9 @@ pub extern "C" fn nuqsillay_generate(
         n50,
         misses,
         passed,
-        acc: accuracy,
-    };
-    hand(generate::generate(q), out)
+        acc,
+        out,
+    )
 }
 
 // Works a sheet: 0 with an answer of 32 bytes for each query in out, or 1 to 5 with out unchanged.

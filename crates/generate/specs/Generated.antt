@@ -1,5 +1,6 @@
 -- Document 01, Language forms: "For every answer that is an enum, a definition gives this paper's number and values for each case of
 -- the enum." A refused direct call has no counts; the values of another are n320, n300, n200, n100, n50, misses, tried.
+use Prim.Native.Nat.{_<_}
 use mathlib.Core.List.{[], _∷_}
 use Rattle.inspect.specs.Answers.{Answer, refused, worked}
 use Rattle.generate.specs.declared.Generated.{Generated}
@@ -8,3 +9,8 @@ use Rattle.generate.specs.declared.Generated.the-variants.{Counts, Refus
 abbrev pub generatedOf : Generated → Answer
 generatedOf (Counts c tried) = worked (c .n320 ∷ c .n300 ∷ c .n200 ∷ c .n100 ∷ c .n50 ∷ c .misses ∷ tried ∷ [])
 generatedOf (Refused n) = refused n
+
+-- a refusal has a number, which is not 0
+abbrev pub Told : Generated → Type 0
+Told (Counts c tried) = Unit {0}
+Told (Refused n) = 0 < n

@@ -3,12 +3,12 @@ ghost use mathlib.Core.Path.{_≡_};
 ghost use Prim.Native.Nat.{_<_, _≤_};
 ghost use lib.ListN.{length, take};
 ghost use Rattle.generate.specs.Generated.{generatedOf};
-ghost use Rattle.rows.specs.Rows.{leftOver, fieldsLeft, unknownRow, rowStop, accGiven, queryOf, foundAnswer, rowAnswer};
+ghost use Rattle.direct.specs.Direct.{answerIn};
+ghost use Rattle.rows.specs.Rows.{leftOver, fieldsLeft, unknownRow, rowStop, foundAnswer, rowAnswer};
 use generate::Generated;
-use inspect::Accuracy;
 use inspect::Chart;
-use inspect::Query;
 use records::Row;
+use score_state::HitResults;
 
 // A missing field that is not all zero bytes.
 fn left_over(presence: u8, place: u8, nonzero: bool) -> bool
@@ -67,36 +67,23 @@ fn row_stop(row: Row, chart: Chart) -> u32
     0
 }
 
-fn acc_given(presence: u8, bits: u64) -> Accuracy
-    ensures { λ r. ⌜ r ≡ accGiven presence bits ⌝ }
+// The answer that the direct call's status and values tell.
+fn answer_of(status: u32, numbers: [u32; 7]) -> Generated
+    requires { ⌜ length numbers ≡ 7 ⌝ }
+    ensures { λ r. ⌜ generatedOf r ≡ answerIn status numbers ⌝ }
 {
-    if inspect::is_given(presence, 64) {
-        Accuracy::Given(little_endian::f64_of(bits))
-    } else {
-        Accuracy::Absent
+    if status > 0 {
+        return Generated::Refused(status);
     }
-}
-
-// The query of a row and its chart.
-fn query_of(row: Row, chart: Chart) -> Query
-    ensures { λ r. ⌜ r ≡ queryOf row chart ⌝ }
-{
-    let acc = acc_given(row.presence, row.acc);
-    Query {
-        chart,
-        method: row.method,
-        priority: row.priority,
-        classic: row.classic == 1,
-        presence: row.presence,
-        n320: row.n320,
-        n300: row.n300,
-        n200: row.n200,
-        n100: row.n100,
-        n50: row.n50,
-        misses: row.misses,
-        passed: row.passed,
-        acc,
-    }
+    let counts = HitResults {
+        n320: numbers[0],
+        n300: numbers[1],
+        n200: numbers[2],
+        n100: numbers[3],
+        n50: numbers[4],
+        misses: numbers[5],
+    };
+    Generated::Counts(counts, numbers[6])
 }
 
 // The answer of a row whose chart is found.
@@ -107,8 +94,26 @@ fn found_answer(row: Row, chart: Chart) -> Generated
     if stop > 0 {
         return Generated::Refused(stop);
     }
-    let query = query_of(row, chart);
-    generate::generate(query)
+    let acc = little_endian::f64_of(row.acc);
+    let mut numbers = [0u32; 7];
+    let status = direct::generate(
+        chart.n_objects,
+        chart.n_hold_notes,
+        row.method,
+        row.priority,
+        row.classic == 1,
+        row.presence,
+        row.n320,
+        row.n300,
+        row.n200,
+        row.n100,
+        row.n50,
+        row.misses,
+        row.passed,
+        acc,
+        &mut numbers,
+    );
+    answer_of(status, numbers)
 }
 
 // The answer of a row, the sheet's charts being the first n.

@@ -1,6 +1,6 @@
 -- `capi::nuqsillay_accuracy` meets its contract. Assumes nothing.
 use Rattle.score_state.specs.Accuracy.{accuracyAnswer}
-use Rattle.capi.specs.Exports.{sixCounts}
+use Rattle.direct.specs.Direct.{sixCounts}
 use Rattle.capi.proofs.Handed.{accuracy-is, accuracy-refused}
 use borrow.Author.Needs.{needs}
 use Rattle.capi.proofs.nuqsillay_accuracy.Statement.{statement}

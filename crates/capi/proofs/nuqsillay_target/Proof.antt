@@ -5,7 +5,7 @@ use native.Mathlib.Omega.{arith}
 use lib.ListN.{length-set}
 use Rattle.inspect.specs.Answers.{answerOf, targetAnswer}
 use Rattle.capi.specs.Exports.{targetQuery}
-use Rattle.capi.proofs.Handed.{handed-short, handed-refused, handed-worked}
+use Rattle.direct.proofs.Handed.{handed-short, handed-refused, handed-worked}
 use borrow.Author.Needs.{needs}
 use Rattle.capi.proofs.nuqsillay_target.Statement.{statement}
 use Rattle.capi.proofs.nuqsillay_target.Tie as tie

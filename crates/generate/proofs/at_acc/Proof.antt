@@ -22,19 +22,19 @@ nearest-counts-requires c κs = search needs
 returns : tie.Need-returns
 returns c =
     let x = c .before .before .args in
-    fast-at (inspectOf (x .q)) (x .acc) (c .with-acc .result) (c .before .before .pre .1 .1 .1 .1) (c .with-acc .ensures)
-    ∙ ap (λ (m : ℕ). byMethod m (inspectOf (x .q))) (sym (c .before .match .keys1))
+    let e = fast-at (inspectOf (x .q)) (x .acc) (c .with-acc .result) (c .before .before .pre .1 .1 .1 .1) (c .with-acc .ensures) in
+    (e ∙ ap (λ (m : ℕ). byMethod m (inspectOf (x .q))) (sym (c .before .match .keys1)), tt)
 
 returns-2 : tie.Need-returns-2
 returns-2 c =
     let x = c .before .before .args in
-    closest-at (inspectOf (x .q)) (x .acc) (generatedOf (c .closest-counts .result)) (c .before .before .pre .1 .1 .1 .1) (c .closest-counts .ensures)
-    ∙ ap (λ (m : ℕ). byMethod m (inspectOf (x .q))) (sym (c .before .match .keys2))
+    let e = closest-at (inspectOf (x .q)) (x .acc) (generatedOf (c .closest-counts .result)) (c .before .before .pre .1 .1 .1 .1) (c .closest-counts .ensures .0) in
+    (e ∙ ap (λ (m : ℕ). byMethod m (inspectOf (x .q))) (sym (c .before .match .keys2)), c .closest-counts .ensures .1)
 
 returns-3 : tie.Need-returns-3
 returns-3 c =
     let x = c .before .before .args in
-    nearest-at (x .method) (inspectOf (x .q)) (x .acc) (generatedOf (c .nearest-counts .result)) (omega arith) (c .before .before .pre .1 .1 .1 .1) (c .nearest-counts .ensures)
+    (nearest-at (x .method) (inspectOf (x .q)) (x .acc) (generatedOf (c .nearest-counts .result)) (omega arith) (c .before .before .pre .1 .1 .1 .1) (c .nearest-counts .ensures .0), c .nearest-counts .ensures .1)
 
 pub at-acc-spec : {M : Type 1} → statement M
 at-acc-spec =

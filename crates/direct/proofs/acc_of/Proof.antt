@@ -1,8 +1,8 @@
--- `capi::acc_of` meets its contract. Assumes nothing.
+-- `direct::acc_of` meets its contract. Assumes nothing.
 use mathlib.Core.Path.{sym, _∙_}
 use borrow.Author.Needs.{needs}
-use Rattle.capi.proofs.acc_of.Statement.{statement}
-use Rattle.capi.proofs.acc_of.Tie as tie
+use Rattle.direct.proofs.acc_of.Statement.{statement}
+use Rattle.direct.proofs.acc_of.Tie as tie
 
 is-given-requires : tie.Need-is-given-requires
 is-given-requires c κs = search needs

@@ -1,13 +1,13 @@
--- `capi::hand` meets its contract. Assumes nothing.
-use mathlib.Core.Path.{sym, ap}
+-- `direct::hand` meets its contract. Assumes nothing.
+use mathlib.Core.Path.{sym, ap, subst, _∙_}
 use mathlib.Core.List.{[], _∷_}
 use native.Mathlib.Omega.{arith}
-use lib.ListN.{length-set}
-use Rattle.generate.specs.Generated.{generatedOf}
-use Rattle.capi.proofs.Handed.{handed-refused, handed-worked}
+use lib.ListN.{take, length-set}
+use Rattle.generate.specs.Generated.{generatedOf, Told}
+use Rattle.direct.proofs.Handed.{handed-refused, handed-worked, told-refused, told-worked}
 use borrow.Author.Needs.{needs}
-use Rattle.capi.proofs.hand.Statement.{statement}
-use Rattle.capi.proofs.hand.Tie as tie
+use Rattle.direct.proofs.hand.Statement.{statement}
+use Rattle.direct.proofs.hand.Tie as tie
 
 enum-known-g : tie.Need-enum-known-g
 enum-known-g c = search needs
@@ -41,12 +41,23 @@ same-length c = search needs
 
 returns : tie.Need-returns
 returns c =
-    handed-worked 7
-    (c .before .g .given .0 .0 .n320 ∷ c .before .g .given .0 .0 .n300 ∷ c .before .g .given .0 .0 .n200 ∷ c .before .g .given .0 .0 .n100 ∷ c .before .g .given .0 .0 .n50 ∷ c .before .g .given .0 .0 .misses ∷ c .before .g .given .0 .1 .0 ∷ [])
-    (generatedOf (c .before .before .before .args .g)) (c .before .before .before .args .out .now) (c .before .before .before .pre) (omega arith) (sym (ap generatedOf (c .before .g .given .1)))
+    let r = c .before .g .given .0 .0 in
+    let t = c .before .g .given .0 .1 .0 in
+    let x = c .before .before .before .args in
+    let e = sym (ap generatedOf (c .before .g .given .1)) in (
+      handed-worked 7 (r .n320 ∷ r .n300 ∷ r .n200 ∷ r .n100 ∷ r .n50 ∷ r .misses ∷ t ∷ []) (generatedOf (x .g)) (x .out .now) (c .before .before .before .pre .1) (omega arith) e,
+      told-worked (r .n320) (r .n300) (r .n200) (r .n100) (r .n50) (r .misses) t (x .out .now) (c .before .before .before .pre .1) ∙ e,
+    )
 
 returns-2 : tie.Need-returns-2
-returns-2 c = handed-refused 7 (c .before .g2 .given .0 .0) (generatedOf (c .before .before .before .args .g)) (c .before .before .before .args .out .now) (c .before .before .before .pre) (sym (ap generatedOf (c .before .g2 .given .1)))
+returns-2 c =
+    let n = c .before .g2 .given .0 .0 in
+    let x = c .before .before .before .args in
+    let k = c .before .g2 .given .1 in
+    let e = sym (ap generatedOf k) in (
+      handed-refused 7 n (generatedOf (x .g)) (x .out .now) (c .before .before .before .pre .1) e,
+      told-refused n (take 7 (x .out .now)) (subst Told k (c .before .before .before .pre .0)) ∙ e,
+    )
 
 pub hand-spec : {M : Type 1} → statement M
 hand-spec =

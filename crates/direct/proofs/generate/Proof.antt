@@ -1,0 +1,45 @@
+-- `direct::generate` meets its contract. Assumes nothing.
+use Prim.Native.Nat.{_≤_}
+use native.Mathlib.Nat.{not-le-of-lt}
+use mathlib.Core.Path.{_≡_, ap, _∙_}
+use lib.ListN.{length}
+use Rattle.generate.specs.Generated.{generatedOf}
+use Rattle.inspect.specs.Answers.{Answer}
+use Rattle.generate_laws.specs.Generate.{generateAnswer}
+use Rattle.direct.specs.Direct.{sixCounts, queryBy, handed}
+use Rattle.direct.proofs.Handed.{handed-short}
+use borrow.Author.Needs.{needs}
+use Rattle.direct.proofs.generate.Statement.{statement}
+use Rattle.direct.proofs.generate.Tie as tie
+
+returns : tie.Need-returns
+returns c =
+    let x = c .before .before .args in
+    let q = queryBy (x .objects) (x .holds) (x .method) (x .priority) (x .classic) (x .presence) (sixCounts (x .n320) (x .n300) (x .n200) (x .n100) (x .n50) (x .misses)) (x .passed) (x .acc) in
+    (handed-short 7 (generateAnswer q) (x .out .now) (c .if1 .taken), λ (h : 7 ≤ length (x .out .now)). absurd (not-le-of-lt (c .if1 .taken) h))
+
+acc-of-requires : tie.Need-acc-of-requires
+acc-of-requires c κs = search needs
+
+generate-requires : tie.Need-generate-requires
+generate-requires c κs = search needs
+
+hand-requires : tie.Need-hand-requires
+hand-requires c κs = search needs
+
+same-length : tie.Need-same-length
+same-length c = search needs
+
+-- the query that is handed over is the one of these numbers
+returns-2 : tie.Need-returns-2
+returns-2 c =
+    let x = c .before .before .before .before .before .before .before .before .args in
+    let q = queryBy (x .objects) (x .holds) (x .method) (x .priority) (x .classic) (x .presence) (sixCounts (x .n320) (x .n300) (x .n200) (x .n100) (x .n50) (x .misses)) (x .passed) (x .acc) in
+    let e : generatedOf (c .before .before .before .before .generate .result) ≡ generateAnswer q =
+    c .before .before .before .before .generate .ensures .0 ∙ rw (c .before .before .before .before .before .acc-of .ensures) in
+    (c .before .before .hand .ensures .0 ∙ ap (λ (a : Answer). handed 7 a (x .out .now)) e, λ (h : 7 ≤ length (x .out .now)). c .before .before .hand .ensures .1 ∙ e)
+
+pub generate-spec : {M : Type 1} → statement M
+generate-spec =
+    tie.close
+    (tie.spec returns acc-of-requires generate-requires hand-requires same-length returns-2)

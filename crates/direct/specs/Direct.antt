@@ -1,0 +1,61 @@
+-- Document 01, Where a row or sheet stops: "A direct call, which takes method and priority as numbers, refuses by 7, 8, 10 to 14 with
+-- no counts." An output without room for the values is refused by 5, before anything else, and left unchanged.
+use Prim.Native.Nat.{ℕ}
+use mathlib.Core.Bool.{Bool, true, false, cond}
+use mathlib.Core.List.{List, [], _++_}
+use lib.Dec.{ltb, eqb}
+use lib.ListN.{length, drop}
+use lib.Ieee.{Float}
+use Rattle.score_state.specs.declared.HitResults.{HitResults}
+use Rattle.inspect.specs.Answers.{Answer}
+use Rattle.inspect.specs.Presence.{has}
+use Rattle.inspect.specs.declared.Accuracy.{Accuracy}
+use Rattle.inspect.specs.declared.Accuracy.the-variants.{Given, Absent}
+use Rattle.inspect.specs.declared.Query.{Query}
+
+abbrev pub sixCounts : ℕ → ℕ → ℕ → ℕ → ℕ → ℕ → HitResults
+sixCounts n320 n300 n200 n100 n50 misses = record { n320 = n320; n300 = n300; n200 = n200; n100 = n100; n50 = n50; misses = misses }
+
+-- a call's result and what its output holds at the end
+pub record Lent : Type 0 where
+  pub status : ℕ
+  pub out : List ℕ
+
+abbrev pub lent : ℕ → List ℕ → Lent
+lent status out = record { status = status; out = out }
+
+abbrev pub either : Bool → Lent → Lent → Lent
+either true a b = a
+either false a b = b
+
+-- an answer of n values, in front of what the output held
+unfoldable pub handed : ℕ → Answer → List ℕ → Lent
+handed n a out = either (ltb (length out) n) (lent 5 out) (lent (a .status) (a .values ++ drop (length (a .values)) out))
+
+-- the answer that a call's result and its values tell
+abbrev pub answerIn : ℕ → List ℕ → Answer
+answerIn status values = record { status = status; values = cond (eqb status 0) values [] }
+
+-- an accuracy that its bit of presence says is given
+abbrev pub accBy : Bool → Float → Accuracy
+accBy true acc = Given acc
+accBy false acc = Absent
+
+-- the query of these numbers
+abbrev pub queryBy : ℕ → ℕ → ℕ → ℕ → Bool → ℕ → HitResults → ℕ → Float → Query
+queryBy objects holds method priority classic presence counts passed acc =
+    record {
+      chart = record { «n_objects» = objects; «n_hold_notes» = holds };
+      method = method;
+      priority = priority;
+      classic = classic;
+      presence = presence;
+      n320 = counts .n320;
+      n300 = counts .n300;
+      n200 = counts .n200;
+      n100 = counts .n100;
+      n50 = counts .n50;
+      misses = counts .misses;
+      passed = passed;
+      acc = accBy (has presence 64) acc;
+    }

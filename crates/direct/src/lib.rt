@@ -1,0 +1,90 @@
+// The direct call with its parts as numbers, which C and the rows of a sheet share: no struct is handed over on the way.
+ghost use mathlib.Core.Path.{_≡_};
+ghost use Prim.Native.Nat.{_≤_};
+ghost use lib.ListN.{length, take};
+ghost use Rattle.inspect.specs.Presence.{has};
+ghost use Rattle.generate_laws.specs.Generate.{generateAnswer};
+ghost use Rattle.generate.specs.Generated.{generatedOf, Told};
+ghost use Rattle.direct.specs.Direct.{sixCounts, lent, handed, answerIn, accBy, queryBy};
+use generate::Generated;
+use inspect::Accuracy;
+use inspect::Chart;
+use inspect::Query;
+
+// The accuracy where its bit of presence, 64, is set.
+fn acc_of(presence: u8, acc: f64) -> Accuracy
+    ensures { λ r. ⌜ r ≡ accBy (has presence 64) acc ⌝ }
+{
+    if inspect::is_given(presence, 64) {
+        Accuracy::Given(acc)
+    } else {
+        Accuracy::Absent
+    }
+}
+
+// An answer's values to the output, which has room for them.
+fn hand(g: Generated, out: &mut [u32]) -> u32
+    requires { ⌜ Told g ⌝ ∗ ⌜ 7 ≤ length (now out) ⌝ }
+    ensures { λ r. ⌜ lent r (now (out .exit)) ≡ handed 7 (generatedOf g) (now (out .entry)) ⌝ }
+    ensures { λ r. ⌜ answerIn r (take 7 (now (out .exit))) ≡ generatedOf g ⌝ }
+{
+    match g {
+        Generated::Counts(counts, tried) => {
+            out[0] = counts.n320;
+            out[1] = counts.n300;
+            out[2] = counts.n200;
+            out[3] = counts.n100;
+            out[4] = counts.n50;
+            out[5] = counts.misses;
+            out[6] = tried;
+            0
+        }
+        Generated::Refused(n) => n,
+    }
+}
+
+// 0 with the five counts, misses and tried in out, or the number that refuses: 5 where out has no room for them.
+pub fn generate(
+    objects: u32,
+    holds: u32,
+    method: u8,
+    priority: u8,
+    classic: bool,
+    presence: u8,
+    n320: u32,
+    n300: u32,
+    n200: u32,
+    n100: u32,
+    n50: u32,
+    misses: u32,
+    passed: u32,
+    acc: f64,
+    out: &mut [u32],
+) -> u32
+    ensures { λ r. ⌜ lent r (now (out .exit)) ≡ handed 7 (generateAnswer (queryBy objects holds method priority classic presence (sixCounts n320 n300 n200 n100 n50 misses) passed acc)) (now (out .entry)) ⌝ }
+    ensures { λ r. ⌜ (7 ≤ length (now (out .entry)) → answerIn r (take 7 (now (out .exit))) ≡ generateAnswer (queryBy objects holds method priority classic presence (sixCounts n320 n300 n200 n100 n50 misses) passed acc)) ⌝ }
+{
+    if out.len() < 7 {
+        return 5;
+    }
+    let accuracy = acc_of(presence, acc);
+    let q = Query {
+        chart: Chart {
+            n_objects: objects,
+            n_hold_notes: holds,
+        },
+        method,
+        priority,
+        classic,
+        presence,
+        n320,
+        n300,
+        n200,
+        n100,
+        n50,
+        misses,
+        passed,
+        acc: accuracy,
+    };
+    hand(generate::generate(q), out)
+}
