@@ -4,7 +4,7 @@ ghost use Prim.Native.Nat.{_≤_};
 ghost use lib.ListN.{length, take};
 ghost use Rattle.inspect.specs.Presence.{has};
 ghost use Rattle.generate_laws.specs.Generate.{generateAnswer};
-ghost use Rattle.generate.specs.Generated.{generatedOf, Told};
+ghost use Rattle.generate.specs.Generated.{generatedOf, Numbered};
 ghost use Rattle.direct.specs.Direct.{sixCounts, lent, handed, answerIn, accBy, queryBy};
 use generate::Generated;
 use inspect::Accuracy;
@@ -24,7 +24,7 @@ fn acc_of(presence: u8, acc: f64) -> Accuracy
 
 // An answer's values to the output, which has room for them.
 fn hand(g: Generated, out: &mut [u32]) -> u32
-    requires { ⌜ Told g ⌝ ∗ ⌜ 7 ≤ length (now out) ⌝ }
+    requires { ⌜ Numbered g ⌝ ∗ ⌜ 7 ≤ length (now out) ⌝ }
     ensures { λ r. ⌜ lent r (now (out .exit)) ≡ handed 7 (generatedOf g) (now (out .entry)) ⌝ }
     ensures { λ r. ⌜ answerIn r (take 7 (now (out .exit))) ≡ generatedOf g ⌝ }
 {

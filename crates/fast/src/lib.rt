@@ -14,7 +14,6 @@ ghost use Rattle.inspect.specs.Checks.{Domain};
 ghost use Rattle.fast.specs.Fast as Fast;
 ghost use Rattle.fast.specs.Fast.{used, ifNone, clamped, plusLeft};
 ghost use Rattle.fast.specs.Code.{prelimOf, upgradedOf, fillingOf, placeOf, ruleAt, bestPlaceAt, worstPlaceAt};
-use inspect::Accuracy;
 use inspect::Query;
 use inspect::least;
 use score_state::HitResults;
@@ -347,9 +346,9 @@ fn three_or_fewer(q: Query, acc: f64, remain: Hits, misses: Hits, p: Prelim) -> 
     add_left(q, total, hitresults)
 }
 
-// With an accuracy: five zeros where nothing remains; else by how many counts are provided. `generate` calls it where it has the
-// accuracy in hand.
-pub fn with_acc(q: Query, acc: f64) -> HitResults
+// Method 1, Fast, at a given accuracy: five zeros where nothing remains; else by how many counts are provided. Without an accuracy it
+// is IgnoreAccuracy, as the Rust's first lines say; `generate` asks that of all methods in one place.
+pub fn generate_hitresults(q: Query, acc: f64) -> HitResults
     requires { ⌜ T (Ieee.le zero64 acc) ⌝ ∗ ⌜ T (Ieee.le acc one64) ⌝ }
     requires { ⌜ Domain q ⌝ }
     ensures { λ r. ⌜ r ≡ Fast.withAcc acc (inspectOf q) ⌝ }
@@ -372,17 +371,5 @@ pub fn with_acc(q: Query, acc: f64) -> HitResults
         Filling::AllProvided => all_provided(p, misses),
         Filling::OneMissing => one_missing(q, remain, misses, p),
         Filling::ThreeOrFewer => three_or_fewer(q, acc, remain, misses, p),
-    }
-}
-
-// Method 1, Fast: the definition's counts. Without an accuracy it is IgnoreAccuracy.
-pub fn generate_hitresults(q: Query) -> HitResults
-    requires { ⌜ Domain q ⌝ }
-    ensures { λ r. ⌜ r ≡ Fast.fast (inspectOf q) ⌝ }
-{
-    let a = q.acc;
-    match a {
-        Accuracy::Given(acc) => with_acc(q, acc),
-        Accuracy::Absent => ignore_acc::generate_hitresults(q),
     }
 }

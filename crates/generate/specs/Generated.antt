@@ -11,6 +11,6 @@ generatedOf (Counts c tried) = worked (c .n320 ∷ c .n300 ∷ c .n200 ∷ c .n1
 generatedOf (Refused n) = refused n
 
 -- a refusal has a number, which is not 0
-abbrev pub Told : Generated → Type 0
-Told (Counts c tried) = Unit {0}
-Told (Refused n) = 0 < n
+abbrev pub Numbered : Generated → Type 0
+Numbered (Counts c tried) = Unit {0}
+Numbered (Refused n) = 0 < n

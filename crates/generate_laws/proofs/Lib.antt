@@ -1,3 +1,4 @@
+pub mod Elements
 pub mod Plays
 pub mod EquallyFar
 pub mod Method3

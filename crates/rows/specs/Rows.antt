@@ -11,11 +11,10 @@ use lib.ListN.{length, getD}
 use Rattle.inspect.specs.Presence.{has}
 use Rattle.inspect.specs.Checks.{chartOver}
 use Rattle.inspect.specs.Answers.{Answer, unless}
-use Rattle.inspect.specs.declared.Accuracy.{Accuracy}
-use Rattle.inspect.specs.declared.Accuracy.the-variants.{Given, Absent}
 use Rattle.inspect.specs.declared.Chart.{Chart}
 use Rattle.inspect.specs.declared.Query.{Query}
 use Rattle.generate_laws.specs.Generate.{generateAnswer}
+use Rattle.direct.specs.Direct.{accBy}
 use Rattle.records.specs.declared.Row.{Row}
 use Rattle.charts.specs.Charts.{noChart}
 
@@ -44,9 +43,6 @@ unknownRow row = ltb 3 (row .method) || ltb 1 (row .priority) || ltb 1 (row .cla
 unfoldable pub rowStop : Row → Chart → ℕ
 rowStop row chart = cond (chartOver chart) 7 (cond (unknownRow row) 8 (cond (fieldsLeft row) 9 0))
 
-unfoldable pub accGiven : ℕ → ℕ → Accuracy
-accGiven presence bits = cond (has presence 64) (Given (ofBits binary64 bits)) Absent
-
 -- the query that a row states of its chart
 unfoldable pub queryOf : Row → Chart → Query
 queryOf row chart =
@@ -63,7 +59,7 @@ queryOf row chart =
       n50 = row .n50;
       misses = row .misses;
       passed = row .passed;
-      acc = accGiven (row .presence) (row .acc);
+      acc = accBy (has (row .presence) 64) (ofBits binary64 (row .acc));
     }
 
 -- the answer of a row whose chart is found: what the direct call answers, unless a check stops it before

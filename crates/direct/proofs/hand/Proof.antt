@@ -3,7 +3,7 @@ use mathlib.Core.Path.{sym, ap, subst, _∙_}
 use mathlib.Core.List.{[], _∷_}
 use native.Mathlib.Omega.{arith}
 use lib.ListN.{take, length-set}
-use Rattle.generate.specs.Generated.{generatedOf, Told}
+use Rattle.generate.specs.Generated.{generatedOf, Numbered}
 use Rattle.direct.proofs.Handed.{handed-refused, handed-worked, told-refused, told-worked}
 use borrow.Author.Needs.{needs}
 use Rattle.direct.proofs.hand.Statement.{statement}
@@ -56,7 +56,7 @@ returns-2 c =
     let k = c .before .g2 .given .1 in
     let e = sym (ap generatedOf k) in (
       handed-refused 7 n (generatedOf (x .g)) (x .out .now) (c .before .before .before .pre .1) e,
-      told-refused n (take 7 (x .out .now)) (subst Told k (c .before .before .before .pre .0)) ∙ e,
+      told-refused n (take 7 (x .out .now)) (subst Numbered k (c .before .before .before .pre .0)) ∙ e,
     )
 
 pub hand-spec : {M : Type 1} → statement M

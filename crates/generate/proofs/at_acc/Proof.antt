@@ -10,8 +10,8 @@ use borrow.Author.Needs.{needs}
 use Rattle.generate.proofs.at_acc.Statement.{statement}
 use Rattle.generate.proofs.at_acc.Tie as tie
 
-with-acc-requires : tie.Need-with-acc-requires
-with-acc-requires c κs = search needs
+generate-hitresults-requires : tie.Need-generate-hitresults-requires
+generate-hitresults-requires c κs = search needs
 
 closest-counts-requires : tie.Need-closest-counts-requires
 closest-counts-requires c κs = search needs
@@ -22,7 +22,7 @@ nearest-counts-requires c κs = search needs
 returns : tie.Need-returns
 returns c =
     let x = c .before .before .args in
-    let e = fast-at (inspectOf (x .q)) (x .acc) (c .with-acc .result) (c .before .before .pre .1 .1 .1 .1) (c .with-acc .ensures) in
+    let e = fast-at (inspectOf (x .q)) (x .acc) (c .generate-hitresults .result) (c .before .before .pre .1 .1 .1 .1) (c .generate-hitresults .ensures) in
     (e ∙ ap (λ (m : ℕ). byMethod m (inspectOf (x .q))) (sym (c .before .match .keys1)), tt)
 
 returns-2 : tie.Need-returns-2
@@ -40,7 +40,7 @@ pub at-acc-spec : {M : Type 1} → statement M
 at-acc-spec =
     tie.close
     (tie.spec
-    with-acc-requires
+    generate-hitresults-requires
     closest-counts-requires
     nearest-counts-requires
     returns
