@@ -45,6 +45,38 @@ pub extern "C" fn nuqsillay_accuracy(
     }
 }
 
+// The query of `nuqsillay_target`: no count is given but misses and passed.
+fn target_query(
+    objects: u32,
+    holds: u32,
+    classic: bool,
+    presence: u8,
+    misses: u32,
+    passed: u32,
+    acc: f64,
+) -> Query
+    ensures { λ r. ⌜ r ≡ targetQuery objects holds classic presence misses passed acc ⌝ }
+{
+    Query {
+        chart: Chart {
+            n_objects: objects,
+            n_hold_notes: holds,
+        },
+        method: 0,
+        priority: 0,
+        classic,
+        presence: presence / 32 * 32,
+        n320: 0,
+        n300: 0,
+        n200: 0,
+        n100: 0,
+        n50: 0,
+        misses,
+        passed,
+        acc: Accuracy::Given(acc),
+    }
+}
+
 // `rounded_target`: 0 with total hits, misses, remain and the rounded target in out, or the number that refuses.
 #[no_mangle]
 pub extern "C" fn nuqsillay_target(
@@ -62,24 +94,7 @@ pub extern "C" fn nuqsillay_target(
     if out.len() < 4 {
         return 5;
     }
-    let q = Query {
-        chart: Chart {
-            n_objects: objects,
-            n_hold_notes: holds,
-        },
-        method: 0,
-        priority: 0,
-        classic,
-        presence: presence / 32 * 32,
-        n320: 0,
-        n300: 0,
-        n200: 0,
-        n100: 0,
-        n50: 0,
-        misses,
-        passed,
-        acc: Accuracy::Given(acc),
-    };
+    let q = target_query(objects, holds, classic, presence, misses, passed, acc);
     match inspect::rounded_target(q) {
         TargetAnswer::Is(t) => {
             out[0] = t.total_hits.0;

@@ -11,10 +11,12 @@ use Rattle.capi.proofs.nuqsillay_target.Statement.{statement}
 use Rattle.capi.proofs.nuqsillay_target.Tie as tie
 
 returns : tie.Need-returns
-returns c = handed-short 4 (targetAnswer (targetQuery (c .before .before .args .objects) (c .before .before .args .holds) (c .before .before .args .classic) (c .before .before .args .presence) (c .before .before .args .misses) (c .before .before .args .passed) (c .before .before .args .acc))) (c .before .before .args .out .now) (c .if1 .taken)
+returns c =
+    let x = c .before .before .args in
+    handed-short 4 (targetAnswer (targetQuery (x .objects) (x .holds) (x .classic) (x .presence) (x .misses) (x .passed) (x .acc))) (x .out .now) (c .if1 .taken)
 
-mul-t16 : tie.Need-mul-t16
-mul-t16 c = search needs
+target-query-requires : tie.Need-target-query-requires
+target-query-requires c κs = search needs
 
 rounded-target-requires : tie.Need-rounded-target-requires
 rounded-target-requires c κs = search needs
@@ -42,20 +44,23 @@ same-length c = search needs
 
 returns-2 : tie.Need-returns-2
 returns-2 c =
-    handed-worked 4 (c .before .t .given .0 .0 .«total_hits» .0 ∷ c .before .t .given .0 .0 .misses .0 ∷ c .before .t .given .0 .0 .remain .0 ∷ c .before .t .given .0 .0 .target .0 ∷ []) (targetAnswer (targetQuery (c .before .before .before .before .before .before .args .objects) (c .before .before .before .before .before .before .args .holds) (c .before .before .before .before .before .before .args .classic) (c .before .before .before .before .before .before .args .presence) (c .before .before .before .before .before .before .args .misses) (c .before .before .before .before .before .before .args .passed) (c .before .before .before .before .before .before .args .acc))) (c .before .before .before .before .before .before .args .out .now)
-    (c .before .before .before .before .if1 .left) (omega arith) (sym (ap answerOf (c .before .t .given .1)) ∙ c .before .before .before .rounded-target .ensures)
+    let x = c .before .before .before .before .before .before .before .args in
+    let t = c .before .t .given .0 .0 in
+    handed-worked 4 (t .«total_hits» .0 ∷ t .misses .0 ∷ t .remain .0 ∷ t .target .0 ∷ []) (targetAnswer (targetQuery (x .objects) (x .holds) (x .classic) (x .presence) (x .misses) (x .passed) (x .acc))) (x .out .now)
+    (c .before .before .before .before .before .if1 .left) (omega arith) (sym (ap answerOf (c .before .t .given .1)) ∙ c .before .before .before .rounded-target .ensures ∙ ap targetAnswer (c .before .before .before .before .target-query .ensures))
 
 returns-3 : tie.Need-returns-3
 returns-3 c =
-    handed-refused 4 (c .before .n .given .0 .0) (targetAnswer (targetQuery (c .before .before .before .before .before .before .args .objects) (c .before .before .before .before .before .before .args .holds) (c .before .before .before .before .before .before .args .classic) (c .before .before .before .before .before .before .args .presence) (c .before .before .before .before .before .before .args .misses) (c .before .before .before .before .before .before .args .passed) (c .before .before .before .before .before .before .args .acc))) (c .before .before .before .before .before .before .args .out .now)
-    (c .before .before .before .before .if1 .left) (sym (ap answerOf (c .before .n .given .1)) ∙ c .before .before .before .rounded-target .ensures)
+    let x = c .before .before .before .before .before .before .before .args in
+    handed-refused 4 (c .before .n .given .0 .0) (targetAnswer (targetQuery (x .objects) (x .holds) (x .classic) (x .presence) (x .misses) (x .passed) (x .acc))) (x .out .now)
+    (c .before .before .before .before .before .if1 .left) (sym (ap answerOf (c .before .n .given .1)) ∙ c .before .before .before .rounded-target .ensures ∙ ap targetAnswer (c .before .before .before .before .target-query .ensures))
 
 pub nuqsillay-target-spec : {M : Type 1} → statement M
 nuqsillay-target-spec =
     tie.close
     (tie.spec
     returns
-    mul-t16
+    target-query-requires
     rounded-target-requires
     enum-known-t
     slice-write-out
