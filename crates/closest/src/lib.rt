@@ -16,7 +16,7 @@ ghost use Rattle.inspect.specs.Inspect.{inspectOf};
 ghost use Rattle.inspect.specs.Checks.{Domain};
 ghost use Rattle.closest_laws.specs.Loops.{range, firstTwo, offer, scan, nearer};
 ghost use Rattle.closest_laws.specs.Closest as Laws;
-ghost use Rattle.closest_laws.specs.Closest.{playOf, closestAt, provided, weights, ceiling, splitAt, solveTwo, optimizeTwoMissing, lastAt, optimizeLastThree, inner, outer, optimizeThreePlusMissing, clampAndFill, byMissing};
+ghost use Rattle.closest_laws.specs.Closest.{playOf, closestAt, provided, weights, splitAt, solveTwo, optimizeTwoMissing, lastAt, optimizeLastThree, inner, outer, optimizeThreePlusMissing, clampAndFill, byMissing};
 ghost use Rattle.closest_laws.specs.Presence.{lacking};
 ghost use Rattle.closest.specs.Code.{answerOf, ruleFor, playView, heldOf, Known, Room, Left, putAt, weightAt, LacksTwo, TwoOfLast, lastView, nearView, nearTry, bestView, bestTry, pairView, splitView, splitTry};
 use inspect::Query;
@@ -332,7 +332,7 @@ impl Split {
     {
         let y = hits.0 - x.0;
         let score = sum.0 + (w1 * x.0 + w2 * y);
-        let dist = score_state::gap_of(Points(score), target);
+        let dist = Points(score).gap(target);
         self.offer(dist, Pair(x.0, y))
     }
 }
@@ -350,7 +350,7 @@ fn solve_two_vars(w1: u32, w2: u32, hits: Hits, sum: Points, target: Points) -> 
     let over = saturating_sub(target.0, base);
     let step = w1 - w2;
     let floor = least(hits.0, over / step);
-    let ceil = least(hits.0, div_ceil(over, step));
+    let ceil = least(hits.0, rounding::div_ceil(over, step));
     let none = Split {
         found: false,
         dist: Points(0),
@@ -441,7 +441,7 @@ fn n320_values(play: Play) -> Span
     let counts = play.counts;
     let room = saturating_sub(remain.0, min_space_needed(play));
     let lo = saturating_sub(target.0, 10 * remain.0) / (play.w320 - 10);
-    let hi = div_ceil(target.0, play.w320) + 1;
+    let hi = rounding::div_ceil(target.0, play.w320) + 1;
     values(
         inspect::is_given(play.presence, 1),
         counts.n320,
@@ -462,7 +462,7 @@ fn n300_values(play: Play, x: Hits) -> Span
     let earned = play.w320 * x.0;
     let room = saturating_sub(left, min_space_needed(play));
     let lo = saturating_sub(target.0, earned + 10 * left) / 50;
-    let hi = div_ceil(saturating_sub(target.0, earned), 60) + 1;
+    let hi = rounding::div_ceil(saturating_sub(target.0, earned), 60) + 1;
     values(
         inspect::is_given(play.presence, 2),
         counts.n300,
@@ -589,7 +589,7 @@ fn two_of_last(left: Hits, n: u32, base: Points, target: Points, light: u32, ste
 {
     let k = saturating_sub(left.0, n);
     let raw = saturating_sub(target.0, base.0 + light * k);
-    let x = least(k, div_round_ties_even(raw, step));
+    let x = least(k, rounding::div_round_ties_even(raw, step));
     let y = k - x;
     Pair(x, y)
 }
@@ -607,7 +607,7 @@ fn all_three(left: Hits, earned: Points, target: Points) -> Last
     ensures { λ r. ⌜ lastView r ≡ optimizeLastThree firstTwo none none none (left .0) (earned .0) (target .0) ⌝ }
 {
     let lo = saturating_sub(target.0, earned.0 + 20 * left.0) / 20;
-    let up = div_ceil(saturating_sub(target.0, earned.0), 40) + 1;
+    let up = rounding::div_ceil(saturating_sub(target.0, earned.0), 40) + 1;
     let hi = least(least(left.0, up), lo + 1);
     let mut best = Near {
         found: false,
@@ -646,7 +646,7 @@ impl Near {
         let x = two.0;
         let y = two.1;
         let score = earned.0 + (40 * n.0 + 20 * x + 10 * y);
-        let dist = score_state::gap_of(Points(score), target);
+        let dist = Points(score).gap(target);
         self.offer(dist, Last(n.0, x, y))
     }
 }
@@ -655,28 +655,4 @@ fn saturating_sub(x: u32, y: u32) -> u32
     ensures { λ r. ⌜ r ≡ x - y ⌝ }
 {
     if x < y { 0 } else { x - y }
-}
-
-// x / y rounded up.
-fn div_ceil(x: u32, y: u32) -> u32
-    requires { ⌜ (x ≤ 1_000_000_000) × (0 < y) × (y ≤ 1_000) ⌝ }
-    ensures { λ r. ⌜ (r ≡ ceiling x y) × (r ≤ x + y) ⌝ }
-{
-    (x + (y - 1)) / y
-}
-
-// x / y to the nearest whole number, a half to the even one.
-fn div_round_ties_even(x: u32, y: u32) -> u32
-    requires { ⌜ (x ≤ 1_000_000_000) × (0 < y) × (y ≤ 1_000) ⌝ }
-    ensures { λ r. ⌜ r ≡ closest x y ⌝ }
-{
-    let whole = x / y;
-    let twice = x % y * 2;
-    if twice < y {
-        whole
-    } else if twice > y {
-        whole + 1
-    } else {
-        whole + whole % 2
-    }
 }

@@ -17,7 +17,8 @@ use Rattle.score_state.specs.Given.{or}
 use Rattle.score_state.specs.Accuracy.{accuracyOf}
 use Rattle.score_state.specs.declared.HitResults.{HitResults}
 use Rattle.closest_laws.specs.Loops.{Kept, range, firstTwo, each, scan}
-use Rattle.closest_laws.specs.Closest.{Play, Last, weights, ceiling, optimizeLastThree, space, values, values320, values300, resultAt, tryAt, inner, outer, start, search, optimizeThreePlusMissing, cappedSearch}
+use Rattle.rounding.specs.Quotient.{roundedUp}
+use Rattle.closest_laws.specs.Closest.{Play, Last, weights, optimizeLastThree, space, values, values320, values300, resultAt, tryAt, inner, outer, start, search, optimizeThreePlusMissing, cappedSearch}
 use Rattle.rounding.proofs.Less.{lt-self, lt-trans}
 use Rattle.closest_laws.proofs.Scan.{mem-each, mem-two, mem-range, two-first, each-mem, scan-each, two-enough, Enough}
 use Rattle.closest_laws.proofs.LastThree.{Open, sized, worth, spaceOf, givenWorth, lightest, last-same, last-hits, light}
@@ -237,7 +238,7 @@ module _ (p : Play) (fair : Fair p) where
   low300 x = (target - (w * x + 10 * (R - x))) / 50
 
   abbrev high300 : ℕ → ℕ
-  high300 x = ceiling (target - w * x) 60 + 1
+  high300 x = roundedUp (target - w * x) 60 + 1
 
   abbrev room300 : ℕ → ℕ
   room300 x = R - x - space p
@@ -274,7 +275,7 @@ module _ (p : Play) (fair : Fair p) where
   low320 = (target - 10 * R) / (w - 10)
 
   abbrev high320 : ℕ
-  high320 = ceiling target w + 1
+  high320 = roundedUp target w + 1
 
   abbrev room320 : ℕ
   room320 = R - space p

@@ -18,7 +18,8 @@ use Rattle.inspect.specs.Inspect.{Inspect, totalHits, misses, remain}
 use Rattle.inspect.specs.Target.{target}
 use Rattle.inspect.specs.Answers.{Answer, worked, refused}
 use Rattle.closest_laws.specs.Loops.{Kept, each, offer, scan, nearer}
-use Rattle.closest_laws.specs.Closest.{Play, provided, weights, ceiling, resultOf, splitAt, solveTwo, solve, optimizeTwoMissing, optimizeThreePlusMissing, clamp, clampAndFill, six, byMissing, playOf, closestAt}
+use Rattle.rounding.specs.Quotient.{roundedUp}
+use Rattle.closest_laws.specs.Closest.{Play, provided, weights, resultOf, splitAt, solveTwo, solve, optimizeTwoMissing, optimizeThreePlusMissing, clamp, clampAndFill, six, byMissing, playOf, closestAt}
 use Rattle.closest_laws.specs.Presence.{held, lacking}
 use Rattle.closest_laws.proofs.Bits.{missing-count}
 
@@ -113,7 +114,7 @@ module _ (w1 w2 T h P : ℕ) where
   Best = Kept (Option ℕ) (List ℕ)
 
   pub four
-      : (v down c up : ℕ) (b0 b1 b2 b3 b4 : Best) → (w1 ≡ w2 → ⊥) → v ≡ T - (P + w2 * h) → down ≡ min h (v / (w1 - w2)) → c ≡ ceiling v (w1 - w2) → up ≡ min h c
+      : (v down c up : ℕ) (b0 b1 b2 b3 b4 : Best) → (w1 ≡ w2 → ⊥) → v ≡ T - (P + w2 * h) → down ≡ min h (v / (w1 - w2)) → c ≡ roundedUp v (w1 - w2) → up ≡ min h c
       → b0 ≡ record { dist = none; result = 0 ∷ h ∷ [] }
       → b1 ≡ offer nearer (splitAt w1 w2 T h P 0) b0 → b2 ≡ offer nearer (splitAt w1 w2 T h P down) b1
       → b3 ≡ offer nearer (splitAt w1 w2 T h P up) b2 → b4 ≡ offer nearer (splitAt w1 w2 T h P h) b3

@@ -13,7 +13,8 @@ use lib.Ieee.Nearest.{closest}
 use Rattle.score_state.specs.Points.{gap}
 use Rattle.score_state.specs.Given.{or}
 use Rattle.closest_laws.specs.Loops.{Kept, from, range, firstTwo, each, offer, scan, nearer}
-use Rattle.closest_laws.specs.Closest.{Last, ceiling, lastAt, optimizeLastThree}
+use Rattle.rounding.specs.Quotient.{roundedUp}
+use Rattle.closest_laws.specs.Closest.{Last, lastAt, optimizeLastThree}
 use Rattle.rounding.proofs.Floats.{closest-by}
 use Rattle.closest_laws.proofs.Scan.{mem-each, mem-two, scan-all, two-enough}
 
@@ -114,7 +115,7 @@ abbrev low200 : ℕ → ℕ → ℕ → ℕ
 low200 r A T = (T - (A + 20 * r)) / 20
 
 abbrev high200 : ℕ → ℕ → ℕ → ℕ
-high200 r A T = min r (ceiling (T - A) 40 + 1)
+high200 r A T = min r (roundedUp (T - A) 40 + 1)
 
 abbrev none200 : ℕ → Kept (Option ℕ) Last
 none200 r = record { dist = none; result = record { n200 = 0; n100 = 0; n50 = r } }
@@ -247,4 +248,4 @@ light none none (some c) r A T o h l = let e = nothing 20 T (A + 10 * c + 20 * (
 light none none none r A T o h l =
     let z : (T - (A + 20 * r)) / 20 ≡ 0 = omega arith in
     ap (λ (m : ℕ). worth (scan nearer (each (firstTwo m (high200 r A T)) (λ n. lastAt r A T n ∷ [])) (none200 r) .result)) z
-    ∙ (ap (λ (x : Kept (Option ℕ) Last). worth (x .result)) (first-stays r A T (ceiling (T - A) 40 + 1) l) ∙ light-first r A T l ∙ omega arith)
+    ∙ (ap (λ (x : Kept (Option ℕ) Last). worth (x .result)) (first-stays r A T (roundedUp (T - A) 40 + 1) l) ∙ light-first r A T l ∙ omega arith)

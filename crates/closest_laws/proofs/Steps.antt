@@ -14,7 +14,8 @@ use Rattle.score_state.specs.Points.{gap}
 use Rattle.score_state.specs.Given.{or}
 use Rattle.inspect.specs.Presence.{given}
 use Rattle.closest_laws.specs.Loops.{Kept, from, range, firstTwo, each, offer, scan, nearer}
-use Rattle.closest_laws.specs.Closest.{Play, Last, max64, ceiling, lastAt, optimizeLastThree, space, values, values320, values300, start}
+use Rattle.rounding.specs.Quotient.{roundedUp}
+use Rattle.closest_laws.specs.Closest.{Play, Last, max64, lastAt, optimizeLastThree, space, values, values320, values300, start}
 use Rattle.closest_laws.proofs.Scan.{scan-append}
 
 -- ---- an offer
@@ -42,23 +43,6 @@ pub near-kept : {A : Type 0} (f : Bool) (t : A) (d e : ℕ) (u : A) → not f �
 unfolding nearer offer
 near-kept true t d e u h l = ap (λ (x : Bool). cond x (record { dist = some d; result = t }) (record { dist = some e; result = u })) (sym l)
 near-kept false t d e u h l = absurd (true≢false h)
-
--- ---- a quotient to the nearest, by twice its remainder
-half-above : (x y : ℕ) → (2 * (x / y) + 1) * y ≡ 2 * (x / y * y) + y
-half-above x y = add-mul (2 * (x / y)) 1 y ∙ ap (λ (z : ℕ). z + 1 * y) (mul-assoc 2 (x / y) y) ∙ ap (λ (z : ℕ). 2 * (x / y * y) + z) (one-mul y)
-
-pub rounds-down : (x y : ℕ) → x % y * 2 < y → x / y ≡ closest x y
-rounds-down x y h = sym (closest-by x y .0 (omega (arith, half-above x y, div-add-mod' x y)))
-
-pub rounds-up : (x y : ℕ) → y < x % y * 2 → x / y + 1 ≡ closest x y
-rounds-up x y h = sym (closest-by x y .1 (omega (arith, half-above x y, div-add-mod' x y)))
-
-pub rounds-even : (x y : ℕ) → x % y * 2 ≡ y → x / y + x / y % 2 ≡ closest x y
-rounds-even x y h = sym (closest-by x y .2 (omega (arith, half-above x y, div-add-mod' x y)))
-
-pub ceiling-le : (x y : ℕ) → 0 < y → ceiling x y ≤ x + y
-unfolding ceiling
-ceiling-le x y h = omega (arith, div-le-self (x + (y - 1)) y)
 
 -- ---- a loop from k to hi
 module _ {K A : Type 0} (less : K → K → Bool) (f : ℕ → List (Kept K A)) where
@@ -88,7 +72,7 @@ unfolding lastAt
 at-is r A T n x y d ex ey ed = rw (ed, ey, ex)
 
 pub all-is
-    : (r A T v u lo c t hi : ℕ) (b : Kept (Option ℕ) Last) → v ≡ T - (A + 20 * r) → lo ≡ v / 20 → u ≡ T - A → c ≡ ceiling u 40
+    : (r A T v u lo c t hi : ℕ) (b : Kept (Option ℕ) Last) → v ≡ T - (A + 20 * r) → lo ≡ v / 20 → u ≡ T - A → c ≡ roundedUp u 40
     → t ≡ min r (c + 1) → hi ≡ min t (lo + 1)
     → b ≡ scan nearer (each (range lo hi) (λ n. lastAt r A T n ∷ [])) (record { dist = none; result = record { n200 = 0; n100 = 0; n50 = r } })
     → b .result ≡ optimizeLastThree firstTwo none none none r A T
@@ -112,14 +96,14 @@ unfolding values firstTwo
 values-two h n room lo hi l t u e el et eu = rw (eu, add-one l, e, et, el)
 
 pub values320-is
-    : (p : Play) (o : Option ℕ) (s room m c : ℕ) → o ≡ p .n320 → s ≡ space p → room ≡ p .remain - s → m ≡ p .target - 10 * p .remain → c ≡ ceiling (p .target) (p .w320)
+    : (p : Play) (o : Option ℕ) (s room m c : ℕ) → o ≡ p .n320 → s ≡ space p → room ≡ p .remain - s → m ≡ p .target - 10 * p .remain → c ≡ roundedUp (p .target) (p .w320)
     → values firstTwo o room (m / (p .w320 - 10)) (c + 1) ≡ values320 firstTwo p
 unfolding values320
 values320-is p o s room m c eo es er em ec = rw (er, es, em, ec, eo)
 
 pub values300-is
     : (p : Play) (x : ℕ) (o : Option ℕ) (s room m u c : ℕ) → o ≡ p .n300 → s ≡ space p → room ≡ p .remain - x - s → m ≡ p .target - (p .w320 * x + 10 * (p .remain - x))
-    → u ≡ p .target - p .w320 * x → c ≡ ceiling u 60
+    → u ≡ p .target - p .w320 * x → c ≡ roundedUp u 60
     → values firstTwo o room (m / 50) (c + 1) ≡ values300 firstTwo p x
 unfolding values300
 values300-is p x o s room m u c eo es er em eu ec = rw (er, es, em, ec, eu, eo)

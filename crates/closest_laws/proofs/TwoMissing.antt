@@ -13,20 +13,21 @@ use lib.ListN.{length}
 use Rattle.score_state.specs.Points.{hits, points, gap, countsOf}
 use Rattle.score_state.specs.Given.{or, missing, givenHits, givenPoints, fill}
 use Rattle.closest_laws.specs.Loops.{Kept, each, offer, scan, nearer}
-use Rattle.closest_laws.specs.Closest.{Play, provided, weights, ceiling, resultOf, splitAt, solveTwo, solve, optimizeTwoMissing}
+use Rattle.rounding.specs.Quotient.{roundedUp}
+use Rattle.closest_laws.specs.Closest.{Play, provided, weights, resultOf, splitAt, solveTwo, solve, optimizeTwoMissing}
 use Rattle.closest_laws.proofs.Scan.{scan-all, scan-made}
 use Rattle.closest_laws.proofs.LastThree.{nearer-self, nearer-trans, gap-rises}
 
 -- ---- a quotient rounded up
-ceiling-over : (v d : ℕ) → 0 < d → v ≤ d * ceiling v d
-unfolding ceiling
-ceiling-over v d D =
+roundedUp-over : (v d : ℕ) → 0 < d → v ≤ d * roundedUp v d
+unfolding roundedUp
+roundedUp-over v d D =
     let h : v + (d - 1) < (v + (d - 1)) / d * d + d = lt-div-mul-add D in
     omega (arith, mul-comm d ((v + (d - 1)) / d))
 
-ceiling-least : (v d j : ℕ) → 0 < d → v / d < j → ceiling v d ≤ j
-unfolding ceiling
-ceiling-least v d j D h =
+roundedUp-least : (v d j : ℕ) → 0 < d → v / d < j → roundedUp v d ≤ j
+unfolding roundedUp
+roundedUp-least v d j D h =
     let a : v < v / d * d + d = lt-div-mul-add D in
     let b : suc (v / d) * d ≤ j * d = mul-le-mul-right d h in
     let e : suc (v / d) * d ≡ v / d * d + d = omega (arith, add-mul (v / d) 1 d) in
@@ -42,7 +43,7 @@ points-at w1 w2 h P j l k =
     let y : w2 * j + (w1 - w2) * j ≡ w1 * j = sym (add-mul w2 (w1 - w2) j) ∙ ap (λ (z : ℕ). z * j) (omega arith) in
     omega arith
 
--- below the floor fewer are further, and above the ceiling more
+-- below the floor fewer are further, and above the roundedUp more
 low-near : (B d T q lo j : ℕ) → lo ≤ q → q * d ≤ T - B → j ≤ lo → gap (B + d * lo) T ≤ gap (B + d * j) T
 unfolding gap
 low-near B d T q lo j l k h = omega (arith, mul-comm q d, mul-le-mul-left d l, mul-le-mul-left d h)
@@ -61,7 +62,7 @@ module _ (w1 w2 T h P : ℕ) where
   low = min h (over / d)
 
   abbrev high : ℕ
-  high = min h (ceiling over d)
+  high = min h (roundedUp over d)
 
   abbrev at : ℕ → Kept (Option ℕ) (List ℕ)
   at x = splitAt w1 w2 T h P x
@@ -98,7 +99,7 @@ module _ (w1 w2 T h P : ℕ) where
       (subst (λ (k : Kept (Option ℕ) (List ℕ)). nearer (at x .dist) (k .dist) ≡ false) (found-split .2)
       (scan-made nearer nearer-self nearer-trans (at x) tries (record { dist = none; result = 0 ∷ h ∷ [] }) m))
 
-  -- one of the floor and the ceiling is at least as near as j
+  -- one of the floor and the roundedUp is at least as near as j
   one-near : w2 < w1 → (j : ℕ) → j ≤ h → (x : ℕ) × List·Memᴰ (at x) tries × (gap (P + (w1 * x + w2 * (h - x))) T ≤ gap (P + (w1 * j + w2 * (h - j))) T)
   one-near l j k = go (decLe j (over / d))
     where
@@ -110,9 +111,9 @@ module _ (w1 w2 T h P : ℕ) where
             (low-near (P + w2 * h) d T (over / d) low j (omega arith) (div-mul-le-self over d) (omega arith)),
       )
       go (no g) =
-          let c : ceiling over d ≤ j = ceiling-least over d j (omega arith) (omega arith) in
-          let e : high ≡ ceiling over d = omega arith in
-          let o : over ≤ d * high = rw e (ceiling-over over d (omega arith)) in (
+          let c : roundedUp over d ≤ j = roundedUp-least over d j (omega arith) (omega arith) in
+          let e : high ≡ roundedUp over d = omega arith in
+          let o : over ≤ d * high = rw e (roundedUp-over over d (omega arith)) in (
             high,
             List·Memᴰ·tail (List·Memᴰ·tail (List·Memᴰ·head refl)),
             rw (points-at w1 w2 h P high (omega arith) (omega arith), points-at w1 w2 h P j (omega arith) k)

@@ -12,6 +12,7 @@ use lib.ListN.{length, getD}
 use lib.Ieee.{Float, binary64, lt, ofBits}
 use lib.Ieee.Nearest.{closest}
 use Rattle.rounding.specs.Distance.{ratio, distance}
+use Rattle.rounding.specs.Quotient.{roundedUp}
 use Rattle.score_state.specs.Points.{perfectWeight, gap}
 use Rattle.score_state.specs.Given.{or, missing, givenHits, givenPoints, fill}
 use Rattle.score_state.specs.Accuracy.{accuracyOf}
@@ -22,10 +23,6 @@ use Rattle.inspect.specs.Answers.{Answer, worked, refused}
 use Rattle.closest_laws.specs.Loops.{range, firstTwo, each, Kept, scan, nearer}
 
 -- ---- numbers
-
--- a / b rounded up; rounded down it is a / b, and to the nearest, a half to even, `closest a b`
-unfoldable pub ceiling : ℕ → ℕ → ℕ
-ceiling a b = (a + (b - 1)) / b
 
 -- f64::MAX
 abbrev pub max64 : Float
@@ -66,7 +63,7 @@ splitAt w1 w2 T h P x = record { dist = some (gap (P + (w1 * x + w2 * (h - x))) 
 unfoldable pub solveTwo : ℕ → ℕ → ℕ → ℕ → ℕ → List ℕ
 solveTwo w1 w2 T h P =
     let over = T - (P + w2 * h) in
-    let tries : List ℕ = 0 ∷ min h (over / (w1 - w2)) ∷ min h (ceiling over (w1 - w2)) ∷ h ∷ [] in
+    let tries : List ℕ = 0 ∷ min h (over / (w1 - w2)) ∷ min h (roundedUp over (w1 - w2)) ∷ h ∷ [] in
     let found = scan nearer (each tries (λ x. splitAt w1 w2 T h P x ∷ [])) (record { dist = none; result = 0 ∷ h ∷ [] }) in
     cond (eqb w1 w2) (h / 2 ∷ (h - h / 2) ∷ []) (found .result)
 
@@ -116,7 +113,7 @@ optimizeLastThree span none none (some n5) r A T =
     record { n200 = n200; n100 = k - n200; n50 = n5 }
 optimizeLastThree span none none none r A T =
     let min200 = (T - (A + 20 * r)) / 20 in
-    let max200 = min r (ceiling (T - A) 40 + 1) in
+    let max200 = min r (roundedUp (T - A) 40 + 1) in
     scan nearer (each (span min200 max200) (λ n. lastAt r A T n ∷ [])) (record { dist = none; result = record { n200 = 0; n100 = 0; n50 = r } }) .result
 
 -- ---- optimize_three_plus_missing (lines 351 to 467)
@@ -132,13 +129,13 @@ values span none room lo hi = span (min room lo) (min room hi)
 
 unfoldable pub values320 : (ℕ → ℕ → List ℕ) → Play → List ℕ
 values320 span p =
-    values span (p .n320) (p .remain - space p) ((p .target - 10 * p .remain) / (p .w320 - 10)) (ceiling (p .target) (p .w320) + 1)
+    values span (p .n320) (p .remain - space p) ((p .target - 10 * p .remain) / (p .w320 - 10)) (roundedUp (p .target) (p .w320) + 1)
 
 unfoldable pub values300 : (ℕ → ℕ → List ℕ) → Play → ℕ → List ℕ
 values300 span p x =
     let left = p .remain - x in
     let earned = p .w320 * x in
-    values span (p .n300) (left - space p) ((p .target - (earned + 10 * left)) / 50) (ceiling (p .target - earned) 60 + 1)
+    values span (p .n300) (left - space p) ((p .target - (earned + 10 * left)) / 50) (roundedUp (p .target - earned) 60 + 1)
 
 -- the candidate with x n320 and y n300
 unfoldable pub resultAt : (ℕ → ℕ → List ℕ) → Play → ℕ → ℕ → HitResults

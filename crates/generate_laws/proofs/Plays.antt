@@ -14,7 +14,8 @@ use Rattle.fast.specs.Fast.{ifNone, clamped, prelim, provided, numProvided, all
 use Rattle.closest_laws.specs.Loops as Loops
 use Rattle.closest_laws.specs.Loops.{from, range, each, scan, nearer}
 use Rattle.closest_laws.specs.Closest as Closest
-use Rattle.closest_laws.specs.Closest.{ceiling, resultOf, splitAt, solveTwo, solve, optimizeTwoMissing, lastAt, optimizeLastThree, space, values, values320, values300, resultAt, tryAt, inner, outer, search, optimizeThreePlusMissing, clamp, clampAndFill, byMissing, playOf, closestAt}
+use Rattle.rounding.specs.Quotient.{roundedUp}
+use Rattle.closest_laws.specs.Closest.{resultOf, splitAt, solveTwo, solve, optimizeTwoMissing, lastAt, optimizeLastThree, space, values, values320, values300, resultAt, tryAt, inner, outer, search, optimizeThreePlusMissing, clamp, clampAndFill, byMissing, playOf, closestAt}
 use Rattle.nearest_laws.specs.Walk as Walk
 use Rattle.nearest_laws.specs.Walk.{gcdIn, gcd, stride, better, settle, lowest, trial, pair, rows, settings, lastOf, initOf, middles, middlesOf, candidates, walk}
 use Rattle.nearest_laws.specs.Nearest.{fold, allGiven, stops, found, nearest}
@@ -22,5 +23,5 @@ use Rattle.generate_laws.specs.Generate.{closestOf, foundOf, nearestOf, 
 use Rattle.generate_laws.specs.Plays.{plays, sameList, right, all}
 
 pub plays-right : T (all right plays)
-unfolding plays sameList right generateAnswer answerBy byMethod closestOf foundOf nearestOf lt le mul sub div neg ofInt ofBits roundEven distance hits points gap or missing givenHits givenPoints fill accuracyOf shortened totalHits cappedMisses misses remain target chartOver unknownCode over countOver accOutside stopOf assignSpecified unwrapOrElse secondPass passes addShortfall bestCase worstCase byPriority ignoreAcc ifNone clamped prelim provided numProvided allProvided oneMissing numerator targetTotal deltaOf upgrade upgrades firstMissing leftPlace plusLeft addLeft threeOrFewer provide withAcc byAcc fast from range each Loops.offer scan nearer ceiling resultOf splitAt solveTwo solve optimizeTwoMissing lastAt optimizeLastThree space values values320 values300 resultAt tryAt inner outer Closest.start search optimizeThreePlusMissing clamp clampAndFill byMissing playOf closestAt gcdIn gcd stride Walk.start Walk.over better Walk.offer settle lowest trial pair rows settings lastOf initOf middles middlesOf candidates walk fold allGiven stops found nearest
+unfolding plays sameList right generateAnswer answerBy byMethod closestOf foundOf nearestOf lt le mul sub div neg ofInt ofBits roundEven distance hits points gap or missing givenHits givenPoints fill accuracyOf shortened totalHits cappedMisses misses remain target chartOver unknownCode over countOver accOutside stopOf assignSpecified unwrapOrElse secondPass passes addShortfall bestCase worstCase byPriority ignoreAcc ifNone clamped prelim provided numProvided allProvided oneMissing numerator targetTotal deltaOf upgrade upgrades firstMissing leftPlace plusLeft addLeft threeOrFewer provide withAcc byAcc fast from range each Loops.offer scan nearer roundedUp resultOf splitAt solveTwo solve optimizeTwoMissing lastAt optimizeLastThree space values values320 values300 resultAt tryAt inner outer Closest.start search optimizeThreePlusMissing clamp clampAndFill byMissing playOf closestAt gcdIn gcd stride Walk.start Walk.over better Walk.offer settle lowest trial pair rows settings lastOf initOf middles middlesOf candidates walk fold allGiven stops found nearest
 plays-right = tt

@@ -126,7 +126,7 @@ impl Best {
         requires { ⌜ self .tried < 4000000000 ⌝ }
         ensures { λ r. ⌜ view r ≡ Walk.offer (target .0) (tryOf spread points) (view self) ⌝ }
     {
-        let d = score_state::gap_of(points, target);
+        let d = points.gap(target);
         let old = self.dist;
         let fresh = self.tried == 0;
         self.tried += 1;

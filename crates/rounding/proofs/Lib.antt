@@ -4,3 +4,4 @@ pub mod Less
 pub mod Apart
 pub mod Whole
 pub mod WholeSum
+pub mod Quotient

@@ -2,13 +2,15 @@
 // numbers, and the distance of two accuracies. For the crates above; the tests of acc's range stand in `inspect`.
 ghost use mathlib.Core.Path.{_≡_};
 ghost use mathlib.Core.Bool.{true, false};
-ghost use Prim.Native.Nat.{_≤_, _<_, _^_};
+ghost use Prim.Native.Nat.{_+_, _≤_, _<_, _^_};
 ghost use lib.Dec.{T};
 ghost use lib.IntN.{pos};
 ghost use lib.Ieee as Ieee;
 ghost use lib.Ieee.{fin};
+ghost use lib.Ieee.Nearest.{closest};
 ghost use Rattle.rounding.specs.Round.{roundEven, product, zero64, one64};
 ghost use Rattle.rounding.specs.Distance.{ratio, distance};
+ghost use Rattle.rounding.specs.Quotient.{roundedUp};
 
 // The whole number nearest to x, a half to the even one, for x from -0.0 up to 2^31. From 2^52 to 2^53 the f64s are the whole
 // numbers: the sum's own rounding, to the nearest and a half to even, is the one asked for, and its bits count on from those of 2^52.
@@ -43,4 +45,28 @@ pub fn distance_of(a: f64, b: f64) -> f64
 {
     let d = a - b;
     if d < 0.0 { -d } else { d }
+}
+
+// x / y rounded up.
+pub fn div_ceil(x: u32, y: u32) -> u32
+    requires { ⌜ (x ≤ 1_000_000_000) × (0 < y) × (y ≤ 1_000) ⌝ }
+    ensures { λ r. ⌜ (r ≡ roundedUp x y) × (r ≤ x + y) ⌝ }
+{
+    (x + (y - 1)) / y
+}
+
+// x / y to the nearest whole number, a half to the even one.
+pub fn div_round_ties_even(x: u32, y: u32) -> u32
+    requires { ⌜ (x ≤ 1_000_000_000) × (0 < y) × (y ≤ 1_000) ⌝ }
+    ensures { λ r. ⌜ r ≡ closest x y ⌝ }
+{
+    let whole = x / y;
+    let twice = x % y * 2;
+    if twice < y {
+        whole
+    } else if twice > y {
+        whole + 1
+    } else {
+        whole + whole % 2
+    }
 }

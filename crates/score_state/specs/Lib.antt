@@ -1,3 +1,4 @@
+pub mod Limits
 pub mod Points
 pub mod Given
 pub mod Accuracy

@@ -39,8 +39,8 @@ add-score-2 c = omega arith
 add-score-3 : tie.Need-add-score-3
 add-score-3 c = omega arith
 
-gap-of-requires : tie.Need-gap-of-requires
-gap-of-requires c κs = tt
+gap-requires : tie.Need-gap-requires
+gap-requires c κs = tt
 
 offer-requires : tie.Need-offer-requires
 offer-requires c κs = tt
@@ -50,7 +50,7 @@ returns c =
     let x = c .before .before .before .before .before .before .before .args in
     c .offer .ensures
     ∙ ap (λ (t : Kept (Option ℕ) Last). offer nearer t (nearView (x .self)))
-    (at-is (x .left .0) (x .earned .0) (x .target .0) (x .n .0) (c .before .before .before .before .two-of-last .result .0) (c .before .before .before .before .two-of-last .result .1) (c .before .gap-of .result .0) (c .before .before .before .before .two-of-last .ensures .heavier) (c .before .before .before .before .two-of-last .ensures .lighter) (c .before .gap-of .ensures))
+    (at-is (x .left .0) (x .earned .0) (x .target .0) (x .n .0) (c .before .before .before .before .two-of-last .result .0) (c .before .before .before .before .two-of-last .result .1) (c .before .gap .result .0) (c .before .before .before .before .two-of-last .ensures .heavier) (c .before .before .before .before .two-of-last .ensures .lighter) (c .before .gap .ensures))
 
 pub at-spec : {M : Type 1} → statement M
 at-spec =
@@ -65,6 +65,6 @@ at-spec =
     mul-score-3
     add-score-2
     add-score-3
-    gap-of-requires
+    gap-requires
     offer-requires
     returns)

@@ -37,8 +37,8 @@ add-score-2 c =
     let p = c .before .before .before .before .pre in
     omega (arith, part-le (x .w1) (x .w2) (x .hits .0) (x .x .0) (p .0) (p .1) (p .4), p .2, p .3)
 
-gap-of-requires : tie.Need-gap-of-requires
-gap-of-requires c κs = tt
+gap-requires : tie.Need-gap-requires
+gap-requires c κs = tt
 
 offer-requires : tie.Need-offer-requires
 offer-requires c κs = tt
@@ -48,7 +48,7 @@ returns c =
     let x = c .before .before .before .before .before .before .args in
     c .offer .ensures
     ∙ ap (λ (t : Kept (Option ℕ) (List ℕ)). offer nearer t (splitView (x .self)))
-    (split-is (x .w1) (x .w2) (x .target .0) (x .hits .0) (x .sum .0) (x .x .0) (c .before .gap-of .result .0) (c .before .gap-of .ensures))
+    (split-is (x .w1) (x .w2) (x .target .0) (x .hits .0) (x .sum .0) (x .x .0) (c .before .gap .result .0) (c .before .gap .ensures))
 
 pub at-spec : {M : Type 1} → statement M
 at-spec =
@@ -59,6 +59,6 @@ at-spec =
     mul-score-2
     add-score
     add-score-2
-    gap-of-requires
+    gap-requires
     offer-requires
     returns)

@@ -8,8 +8,8 @@ use Rattle.nearest.specs.Code.{view, tryOf}
 use Rattle.nearest.proofs.Best.offer.Statement.{statement}
 use Rattle.nearest.proofs.Best.offer.Tie as tie
 
-gap-of-requires : tie.Need-gap-of-requires
-gap-of-requires c κs = search needs
+gap-requires : tie.Need-gap-requires
+gap-requires c κs = search needs
 
 add-self : tie.Need-add-self
 add-self c = search needs
@@ -17,7 +17,7 @@ add-self c = search needs
 returns : tie.Need-returns
 returns c =
     let x = c .before .before .before .before .before .args in
-    let d = c .before .before .before .before .gap-of in
+    let d = c .before .before .before .before .gap in
     took (x .target .0) (x .self .tried + 1) (d .result .0) (tryOf (x .spread) (x .points)) (view (x .self)) refl (d .ensures)
     (⊎-elim
     (λ w. better-fresh (view (x .self)) _ (w .taken))
@@ -27,9 +27,9 @@ returns c =
 returns-2 : tie.Need-returns-2
 returns-2 c =
     let x = c .before .before .before .before .before .before .before .before .args in
-    let d = c .before .before .before .before .before .before .before .gap-of in
+    let d = c .before .before .before .before .before .before .before .gap in
     left (x .target .0) (x .self .tried + 1) (d .result .0) (tryOf (x .spread) (x .points)) (view (x .self)) refl (d .ensures)
     (better-not (view (x .self)) _ (d .result .0) (c .before .before .before .if1 .left) (d .ensures) (c .if2 .left))
 
 pub offer-spec : {M : Type 1} → statement M
-offer-spec = tie.close (tie.spec gap-of-requires add-self returns returns-2)
+offer-spec = tie.close (tie.spec gap-requires add-self returns returns-2)

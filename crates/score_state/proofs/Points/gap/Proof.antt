@@ -1,9 +1,9 @@
--- `score_state::gap_of` meets its contract. Assumes nothing.
+-- `score_state::Points::gap` meets its contract. Assumes nothing.
 use native.Mathlib.Omega.{arith}
 use Rattle.score_state.specs.Points.{gap}
 use borrow.Author.Needs.{needs}
-use Rattle.score_state.proofs.gap_of.Statement.{statement}
-use Rattle.score_state.proofs.gap_of.Tie as tie
+use Rattle.score_state.proofs.Points.gap.Statement.{statement}
+use Rattle.score_state.proofs.Points.gap.Tie as tie
 
 sub-t5 : tie.Need-sub-t5
 sub-t5 c = search needs
@@ -16,5 +16,5 @@ returns-2 : tie.Need-returns-2
 unfolding gap
 returns-2 c = omega arith
 
-pub gap-of-spec : {M : Type 1} → statement M
-gap-of-spec = tie.close (tie.spec sub-t5 returns returns-2)
+pub gap-spec : {M : Type 1} → statement M
+gap-spec = tie.close (tie.spec sub-t5 returns returns-2)

@@ -1,9 +1,9 @@
--- `closest::div_round_ties_even` meets its contract: each way out is one of the three roundings. Assumes nothing.
+-- `rounding::div_round_ties_even` meets its contract: each way out is one of the three roundings. Assumes nothing.
 use native.Mathlib.Omega.{arith}
 use native.Mathlib.Nat.{div-le-self, mod-lt}
-use Rattle.closest_laws.proofs.Steps.{rounds-down, rounds-up, rounds-even}
-use Rattle.closest.proofs.div_round_ties_even.Statement.{statement}
-use Rattle.closest.proofs.div_round_ties_even.Tie as tie
+use Rattle.rounding.proofs.Quotient.{rounds-down, rounds-up, rounds-even}
+use Rattle.rounding.proofs.div_round_ties_even.Statement.{statement}
+use Rattle.rounding.proofs.div_round_ties_even.Tie as tie
 
 div-whole : tie.Need-div-whole
 div-whole c = omega arith
