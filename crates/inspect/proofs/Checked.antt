@@ -21,7 +21,7 @@ use Rattle.inspect.specs.Target.{target}
 use Rattle.inspect.specs.Answers.{refused, worked, unless, targetValues, targetAnswer}
 use Rattle.inspect.specs.declared.Accuracy.{Accuracy}
 use Rattle.inspect.specs.declared.Accuracy.the-variants.{Given, Absent}
-use Rattle.inspect.specs.Checks.{chartOver, chartLimit, unknownCode, over, countOver, accOutside, stopOf, InRange, Domain}
+use Rattle.inspect.specs.Checks.{chartOver, chartLimit, unknownCode, overCap, countOver, accOutside, stopOf, InRange, Domain}
 use Rattle.inspect.specs.declared.Query.{Query}
 
 -- ---- `stopOf` is 0 exactly where no check holds
@@ -34,8 +34,8 @@ goes-on : (b : Bool) (n : ℕ) (rest : ℕ) → 0 < n → cond b n rest ≡ 0 �
 goes-on true n rest p e = absurd (omega arith)
 goes-on false n rest p e = e
 
-within-cap : (g : Option ℕ) → over g ≡ false → or g 0 ≤ cap
-unfolding over or
+within-cap : (g : Option ℕ) → overCap g ≡ false → or g 0 ≤ cap
+unfolding overCap or
 within-cap none e = omega arith
 within-cap (some n) e = ltb-false cap n e
 
@@ -67,23 +67,23 @@ domain q e =
     let e10 : c10 ≡ false = passes c10 10 r11 (omega arith) s10 in
     let s11 : r11 ≡ 0 = goes-on c10 10 r11 (omega arith) s10 in
     let e11 : c11 ≡ false = passes c11 11 0 (omega arith) s11 in
-    let h5 : over (i .n320) || over (i .n300) || over (i .n200) || over (i .n100) || over (i .n50) ≡ false =
-    or-left (over (i .n320) || over (i .n300) || over (i .n200) || over (i .n100) || over (i .n50)) (over (i .misses)) e10 in
-    let h4 : over (i .n320) || over (i .n300) || over (i .n200) || over (i .n100) ≡ false =
-    or-left (over (i .n320) || over (i .n300) || over (i .n200) || over (i .n100)) (over (i .n50)) h5 in
-    let h3 : over (i .n320) || over (i .n300) || over (i .n200) ≡ false =
-    or-left (over (i .n320) || over (i .n300) || over (i .n200)) (over (i .n100)) h4 in
-    let h2 : over (i .n320) || over (i .n300) ≡ false = or-left (over (i .n320) || over (i .n300)) (over (i .n200)) h3 in
+    let h5 : overCap (i .n320) || overCap (i .n300) || overCap (i .n200) || overCap (i .n100) || overCap (i .n50) ≡ false =
+    or-left (overCap (i .n320) || overCap (i .n300) || overCap (i .n200) || overCap (i .n100) || overCap (i .n50)) (overCap (i .misses)) e10 in
+    let h4 : overCap (i .n320) || overCap (i .n300) || overCap (i .n200) || overCap (i .n100) ≡ false =
+    or-left (overCap (i .n320) || overCap (i .n300) || overCap (i .n200) || overCap (i .n100)) (overCap (i .n50)) h5 in
+    let h3 : overCap (i .n320) || overCap (i .n300) || overCap (i .n200) ≡ false =
+    or-left (overCap (i .n320) || overCap (i .n300) || overCap (i .n200)) (overCap (i .n100)) h4 in
+    let h2 : overCap (i .n320) || overCap (i .n300) ≡ false = or-left (overCap (i .n320) || overCap (i .n300)) (overCap (i .n200)) h3 in
     record {
       objects = ltb-false chartLimit (q .chart .«n_objects») (or-left (ltb chartLimit (q .chart .«n_objects»)) (ltb chartLimit (q .chart .«n_hold_notes»)) e7);
       holds = ltb-false chartLimit (q .chart .«n_hold_notes») (or-right (ltb chartLimit (q .chart .«n_objects»)) (ltb chartLimit (q .chart .«n_hold_notes»)) e7);
       method = ltb-false 3 (q .method) (or-left (ltb 3 (q .method)) (ltb 1 (q .priority)) e8);
       priority = ltb-false 1 (q .priority) (or-right (ltb 3 (q .method)) (ltb 1 (q .priority)) e8);
-      n320 = within-cap (i .n320) (or-left (over (i .n320)) (over (i .n300)) h2);
-      n300 = within-cap (i .n300) (or-right (over (i .n320)) (over (i .n300)) h2);
-      n200 = within-cap (i .n200) (or-right (over (i .n320) || over (i .n300)) (over (i .n200)) h3);
-      n100 = within-cap (i .n100) (or-right (over (i .n320) || over (i .n300) || over (i .n200)) (over (i .n100)) h4);
-      n50 = within-cap (i .n50) (or-right (over (i .n320) || over (i .n300) || over (i .n200) || over (i .n100)) (over (i .n50)) h5);
+      n320 = within-cap (i .n320) (or-left (overCap (i .n320)) (overCap (i .n300)) h2);
+      n300 = within-cap (i .n300) (or-right (overCap (i .n320)) (overCap (i .n300)) h2);
+      n200 = within-cap (i .n200) (or-right (overCap (i .n320) || overCap (i .n300)) (overCap (i .n200)) h3);
+      n100 = within-cap (i .n100) (or-right (overCap (i .n320) || overCap (i .n300) || overCap (i .n200)) (overCap (i .n100)) h4);
+      n50 = within-cap (i .n50) (or-right (overCap (i .n320) || overCap (i .n300) || overCap (i .n200) || overCap (i .n100)) (overCap (i .n50)) h5);
       acc = in-range (i .acc) e11;
     }
 
@@ -93,8 +93,8 @@ in-domain q n e h = let z : n ≡ 0 = omega arith in domain q (sym e ∙ z)
 
 -- ---- for the proofs of functions
 -- a check of an optional count, whose bit was read by `is_given`
-pub told : (r b h v : Bool) (n : ℕ) → r ≡ over (given b n) → b ≡ h → r ≡ v → over (given h n) ≡ v
-told r b h v n e f t = ap (λ (x : Bool). over (given x n)) (sym f) ∙ sym e ∙ t
+pub told : (r b h v : Bool) (n : ℕ) → r ≡ overCap (given b n) → b ≡ h → r ≡ v → overCap (given h n) ≡ v
+told r b h v n e f t = ap (λ (x : Bool). overCap (given x n)) (sym f) ∙ sym e ∙ t
 
 -- misses are at most the total hits, and so remain and misses make the total
 pub misses-le : (i : Inspect) → misses i ≤ totalHits i

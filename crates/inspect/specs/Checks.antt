@@ -26,12 +26,12 @@ unfoldable pub unknownCode : ℕ → ℕ → Bool
 unknownCode method priority = ltb 3 method || ltb 1 priority
 
 -- check 10: of the given ones alone
-unfoldable pub over : Option ℕ → Bool
-over none = false
-over (some n) = ltb cap n
+unfoldable pub overCap : Option ℕ → Bool
+overCap none = false
+overCap (some n) = ltb cap n
 
 unfoldable pub countOver : Inspect → Bool
-countOver i = over (i .n320) || over (i .n300) || over (i .n200) || over (i .n100) || over (i .n50) || over (i .misses)
+countOver i = overCap (i .n320) || overCap (i .n300) || overCap (i .n200) || overCap (i .n100) || overCap (i .n50) || overCap (i .misses)
 
 -- check 11: a comparison with NaN is false, so NaN is outside
 unfoldable pub accOutside : Option Float → Bool

@@ -1,15 +1,19 @@
 // inspect.rs: a query, its total hits, misses and remaining hits, the rounded target, and the checks that every method shares.
 ghost use mathlib.Core.Path.{_≡_};
-ghost use Prim.Native.Nat.{_≤_, _<_, _*_, min};
+ghost use mathlib.Core.Bool.{cond};
+ghost use Prim.Native.Nat.{_≤_, _<_, _*_};
 ghost use lib.Dec.{T};
 ghost use lib.Ieee as Ieee;
 ghost use Rattle.rounding.specs.Round.{zero64, one64};
-ghost use Rattle.inspect.specs.Presence.{has, given};
+ghost use Rattle.score_state.specs.Limits.{mostHits, mostWeight};
+ghost use Rattle.inspect.specs.Presence as Presence;
+ghost use Rattle.inspect.specs.Presence.{has, lacking, missingOf, unwrapOrZero};
 ghost use Rattle.inspect.specs.Inspect as Inspect;
 ghost use Rattle.inspect.specs.Inspect.{inspectOf, accOf};
 ghost use Rattle.inspect.specs.Target as Target;
-ghost use Rattle.inspect.specs.Checks.{chartOver, unknownCode, over, countOver, accOutside, stopOf, Domain};
+ghost use Rattle.inspect.specs.Checks.{chartOver, unknownCode, overCap, countOver, accOutside, stopOf, Domain};
 ghost use Rattle.inspect.specs.Answers.{answerOf, targetAnswer};
+use score_state::HitResults;
 use score_state::Hits;
 use score_state::Points;
 
@@ -42,6 +46,52 @@ pub struct Query {
     pub acc: Accuracy,
 }
 
+// The bits of presence.
+pub const N320: u8 = 0b0000_0001;
+
+pub const N300: u8 = 0b0000_0010;
+
+pub const N200: u8 = 0b0000_0100;
+
+pub const N100: u8 = 0b0000_1000;
+
+pub const N50: u8 = 0b0001_0000;
+
+pub const MISSES: u8 = 0b0010_0000;
+
+pub const ACC: u8 = 0b0100_0000;
+
+pub const PASSED: u8 = 0b1000_0000;
+
+// How many of the five counts are missing, as the generators tell it apart.
+pub enum Missing {
+    Nothing,
+    One,
+    Two,
+    ThreePlus,
+}
+
+// The five-way match over the counts, as one over the presence number.
+pub fn missing_of(presence: u8) -> Missing
+    ensures { λ r. ⌜ r ≡ missingOf (lacking presence) ⌝ }
+{
+    match presence % 32 {
+        0b11111 => Missing::Nothing,
+        0b11110 | 0b11101 | 0b11011 | 0b10111 | 0b01111 => Missing::One,
+        0b11100
+        | 0b11010
+        | 0b10110
+        | 0b01110
+        | 0b11001
+        | 0b10101
+        | 0b01101
+        | 0b10011
+        | 0b01011
+        | 0b00111 => Missing::Two,
+        _ => Missing::ThreePlus,
+    }
+}
+
 // Whether the bit with this place value is set.
 pub fn is_given(presence: u8, place: u8) -> bool
     requires { ⌜ 0 < place ⌝ }
@@ -50,19 +100,38 @@ pub fn is_given(presence: u8, place: u8) -> bool
     presence / place % 2 == 1
 }
 
-// `cmp::min`
-pub fn least(a: u32, b: u32) -> u32
-    ensures { λ r. ⌜ r ≡ min a b ⌝ }
+// One of two numbers, as the count with this place value is missing or given.
+pub fn pick(presence: u8, place: u8, missing: u32, given: u32) -> u32
+    requires { ⌜ 0 < place ⌝ }
+    ensures { λ r. ⌜ r ≡ cond (has presence place) given missing ⌝ }
 {
-    if a < b { a } else { b }
+    if is_given(presence, place) {
+        given
+    } else {
+        missing
+    }
+}
+
+// The five counts with 0 for a missing one, and the misses as they are.
+pub fn unwrap_or_zero(presence: u8, counts: HitResults) -> HitResults
+    ensures { λ r. ⌜ r ≡ unwrapOrZero presence counts ⌝ }
+{
+    HitResults {
+        n320: pick(presence, N320, 0, counts.n320),
+        n300: pick(presence, N300, 0, counts.n300),
+        n200: pick(presence, N200, 0, counts.n200),
+        n100: pick(presence, N100, 0, counts.n100),
+        n50: pick(presence, N50, 0, counts.n50),
+        misses: counts.misses,
+    }
 }
 
 // min(passed, n_objects), and no cap where passed is missing.
-fn shortened(held: bool, passed: u32, objects: u32) -> u32
-    ensures { λ r. ⌜ (r ≡ Inspect.shortened (given held passed) objects) × (r ≤ objects) ⌝ }
+fn shortened(given: bool, passed: Hits, objects: Hits) -> Hits
+    ensures { λ r. ⌜ (r .0 ≡ Inspect.shortened (Presence.given given (passed .0)) (objects .0)) × (r .0 ≤ objects .0) ⌝ }
 {
-    if held {
-        least(passed, objects)
+    if given {
+        passed.least(objects)
     } else {
         objects
     }
@@ -71,13 +140,14 @@ fn shortened(held: bool, passed: u32, objects: u32) -> u32
 // The hold notes count in full, even for a shortened play.
 pub fn total_hits(q: Query) -> Hits
     requires { ⌜ Domain q ⌝ }
-    ensures { λ r. ⌜ (r .0 ≡ Inspect.totalHits (inspectOf q)) × (r .0 ≤ 200_000) ⌝ }
+    ensures { λ r. ⌜ (r .0 ≡ Inspect.totalHits (inspectOf q)) × (r .0 ≤ mostHits) ⌝ }
 {
-    let objects = shortened(is_given(q.presence, 128), q.passed, q.chart.n_objects);
+    let passed = is_given(q.presence, PASSED);
+    let objects = shortened(passed, Hits(q.passed), Hits(q.chart.n_objects));
     if q.classic {
-        Hits(objects)
+        objects
     } else {
-        Hits(objects + q.chart.n_hold_notes)
+        objects.plus(Hits(q.chart.n_hold_notes))
     }
 }
 
@@ -87,8 +157,8 @@ pub fn misses(q: Query) -> Hits
     ensures { λ r. ⌜ (r .0 ≡ Inspect.misses (inspectOf q)) × (r .0 ≤ Inspect.totalHits (inspectOf q)) ⌝ }
 {
     let total = total_hits(q);
-    if is_given(q.presence, 32) {
-        Hits(least(q.misses, total.0))
+    if is_given(q.presence, MISSES) {
+        Hits(q.misses).least(total)
     } else {
         Hits(0)
     }
@@ -97,20 +167,20 @@ pub fn misses(q: Query) -> Hits
 // The hits that are no misses.
 pub fn remain(q: Query) -> Hits
     requires { ⌜ Domain q ⌝ }
-    ensures { λ r. ⌜ (r .0 ≡ Inspect.remain (inspectOf q)) × (r .0 ≤ 200_000) ⌝ }
+    ensures { λ r. ⌜ (r .0 ≡ Inspect.remain (inspectOf q)) × (r .0 ≤ mostHits) ⌝ }
 {
     let total = total_hits(q);
     let missed = misses(q);
-    Hits(total.0 - missed.0)
+    total.minus(missed)
 }
 
 // The rounded target: acc times (w times total), one f64 product, to the nearest whole number.
 pub fn target_of(acc: f64, w: u32, total: Hits) -> Points
     requires { ⌜ T (Ieee.le zero64 acc) ⌝ ∗ ⌜ T (Ieee.le acc one64) ⌝ }
-    requires { ⌜ (w ≤ 100) × (total .0 ≤ 200_000) ⌝ }
+    requires { ⌜ (w ≤ mostWeight) × (total .0 ≤ mostHits) ⌝ }
     ensures { λ r. ⌜ (r .0 ≡ Target.target acc w (total .0)) × (r .0 ≤ w * total .0) ⌝ }
 {
-    Points(rounding::rounded_product(acc, w * total.0))
+    total.times(w).rounded_product(acc)
 }
 
 // Check 7, of a chart's two fields. The chart itself is not handed over: its copy would be read as one number of 64 bits right
@@ -135,10 +205,10 @@ fn unknown_code(method: u8, priority: u8) -> bool
 }
 
 // A given count over the cap.
-fn over_cap(held: bool, n: u32) -> bool
-    ensures { λ r. ⌜ r ≡ over (given held n) ⌝ }
+fn over_cap(given: bool, n: u32) -> bool
+    ensures { λ r. ⌜ r ≡ overCap (Presence.given given n) ⌝ }
 {
-    if held { n > 1_000_000 } else { false }
+    if given { n > 1_000_000 } else { false }
 }
 
 // Check 10.
@@ -146,22 +216,22 @@ fn count_over(q: Query) -> bool
     ensures { λ r. ⌜ r ≡ countOver (inspectOf q) ⌝ }
 {
     let p = q.presence;
-    if over_cap(is_given(p, 1), q.n320) {
+    if over_cap(is_given(p, N320), q.n320) {
         return true;
     }
-    if over_cap(is_given(p, 2), q.n300) {
+    if over_cap(is_given(p, N300), q.n300) {
         return true;
     }
-    if over_cap(is_given(p, 4), q.n200) {
+    if over_cap(is_given(p, N200), q.n200) {
         return true;
     }
-    if over_cap(is_given(p, 8), q.n100) {
+    if over_cap(is_given(p, N100), q.n100) {
         return true;
     }
-    if over_cap(is_given(p, 16), q.n50) {
+    if over_cap(is_given(p, N50), q.n50) {
         return true;
     }
-    over_cap(is_given(p, 32), q.misses)
+    over_cap(is_given(p, MISSES), q.misses)
 }
 
 // Check 11: a comparison with NaN is false, so NaN is outside; -0.0 is in.

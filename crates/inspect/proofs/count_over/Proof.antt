@@ -2,7 +2,7 @@
 use mathlib.Core.Bool.{Bool, true, false}
 use mathlib.Core.Path.{sym, ap, _∙_}
 use Rattle.inspect.specs.Presence.{has, given}
-use Rattle.inspect.specs.Checks.{countOver, over}
+use Rattle.inspect.specs.Checks.{countOver, overCap}
 use Rattle.inspect.proofs.Checked.{told}
 use borrow.Author.Needs.{needs}
 use Rattle.inspect.proofs.count_over.Statement.{statement}
@@ -97,7 +97,7 @@ returns-6 c =
       told (c .before .before .before .before .before .before .before .before .before .over-cap3 .result) (c .before .before .before .before .before .before .before .before .before .before .is-given3 .result) (has (c .before .before .before .before .before .before .before .before .before .before .before .before .before .before .before .before .before .args .q .presence) 4) false (c .before .before .before .before .before .before .before .before .before .before .before .before .before .before .before .before .before .args .q .n200) (c .before .before .before .before .before .before .before .before .before .over-cap3 .ensures) (c .before .before .before .before .before .before .before .before .before .before .is-given3 .ensures) (c .before .before .before .before .before .before .before .before .if3 .left),
       told (c .before .before .before .before .before .before .over-cap4 .result) (c .before .before .before .before .before .before .before .is-given4 .result) (has (c .before .before .before .before .before .before .before .before .before .before .before .before .before .before .before .before .before .args .q .presence) 8) false (c .before .before .before .before .before .before .before .before .before .before .before .before .before .before .before .before .before .args .q .n100) (c .before .before .before .before .before .before .over-cap4 .ensures) (c .before .before .before .before .before .before .before .is-given4 .ensures) (c .before .before .before .before .before .if4 .left),
       told (c .before .before .before .over-cap5 .result) (c .before .before .before .before .is-given5 .result) (has (c .before .before .before .before .before .before .before .before .before .before .before .before .before .before .before .before .before .args .q .presence) 16) false (c .before .before .before .before .before .before .before .before .before .before .before .before .before .before .before .before .before .args .q .n50) (c .before .before .before .over-cap5 .ensures) (c .before .before .before .before .is-given5 .ensures) (c .before .before .if5 .left),
-      sym (c .over-cap6 .ensures ∙ ap (λ (b : Bool). over (given b (c .before .before .before .before .before .before .before .before .before .before .before .before .before .before .before .before .before .args .q .misses))) (c .before .is-given6 .ensures)),
+      sym (c .over-cap6 .ensures ∙ ap (λ (b : Bool). overCap (given b (c .before .before .before .before .before .before .before .before .before .before .before .before .before .before .before .before .before .args .q .misses))) (c .before .is-given6 .ensures)),
     )
 
 pub count-over-spec : {M : Type 1} → statement M

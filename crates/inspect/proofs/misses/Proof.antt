@@ -1,11 +1,9 @@
 -- `inspect::misses` meets its contract. Assumes nothing.
-use mathlib.Core.Path.{refl}
-use Rattle.inspect.specs.Inspect.{inspectOf}
+use native.Mathlib.Omega.{arith}
+use mathlib.Core.Path.{refl, sym, _∙_}
+use Rattle.inspect.specs.Inspect.{inspectOf, misses, cappedMisses}
 use Rattle.inspect.specs.Presence.{has}
 use Rattle.inspect.proofs.Checked.{misses-given}
-use native.Mathlib.Omega.{arith}
-use mathlib.Core.Path.{sym, _∙_}
-use Rattle.inspect.specs.Inspect.{misses, cappedMisses}
 use borrow.Author.Needs.{needs}
 use Rattle.inspect.proofs.misses.Statement.{statement}
 use Rattle.inspect.proofs.misses.Tie as tie
@@ -20,7 +18,7 @@ least-requires : tie.Need-least-requires
 least-requires c κs = search needs
 
 returns : tie.Need-returns
-returns c = (misses-given (inspectOf (c .before .before .before .before .args .q)) (has (c .before .before .before .before .args .q .presence) 32) (c .before .before .before .before .args .q .misses) (c .before .before .before .total-hits .result .0) (c .least .result) refl (sym (c .before .before .is-given .ensures) ∙ c .before .if1 .taken) (c .before .before .before .total-hits .ensures .0) (c .least .ensures), omega arith)
+returns c = (misses-given (inspectOf (c .before .before .before .before .args .q)) (has (c .before .before .before .before .args .q .presence) 32) (c .before .before .before .before .args .q .misses) (c .before .before .before .total-hits .result .0) (c .least .result .0) refl (sym (c .before .before .is-given .ensures) ∙ c .before .if1 .taken) (c .before .before .before .total-hits .ensures .0) (c .least .ensures), omega arith)
 
 returns-2 : tie.Need-returns-2
 unfolding misses cappedMisses

@@ -11,12 +11,12 @@ total-hits-requires c κs = search needs
 misses-requires : tie.Need-misses-requires
 misses-requires c κs = search needs
 
-sub-t4 : tie.Need-sub-t4
-sub-t4 c = search needs
+minus-requires : tie.Need-minus-requires
+minus-requires c κs = search needs
 
 returns : tie.Need-returns
 unfolding remain
-returns c = (rw (c .before .before .before .total-hits .ensures .0, c .before .before .misses .ensures .0), omega arith)
+returns c = (rw (c .minus .ensures, c .before .before .total-hits .ensures .0, c .before .misses .ensures .0), omega arith)
 
 pub remain-spec : {M : Type 1} → statement M
-remain-spec = tie.close (tie.spec total-hits-requires misses-requires sub-t4 returns)
+remain-spec = tie.close (tie.spec total-hits-requires misses-requires minus-requires returns)

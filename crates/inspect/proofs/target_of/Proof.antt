@@ -5,15 +5,15 @@ use Rattle.inspect.proofs.Checked.{whole-within}
 use Rattle.inspect.proofs.target_of.Statement.{statement}
 use Rattle.inspect.proofs.target_of.Tie as tie
 
-mul-rounded-product : tie.Need-mul-rounded-product
-mul-rounded-product c = omega (arith, whole-within (c .before .args .w) (c .before .args .total .0) (c .before .pre .1 .1 .0) (c .before .pre .1 .1 .1))
+times-requires : tie.Need-times-requires
+times-requires c κs = omega (arith, whole-within (c .args .w) (c .args .total .0) (c .pre .1 .1 .0) (c .pre .1 .1 .1))
 
 rounded-product-requires : tie.Need-rounded-product-requires
 rounded-product-requires c κs = (c .before .pre .0, (c .before .pre .1 .0, omega (arith, whole-within (c .before .args .w) (c .before .args .total .0) (c .before .pre .1 .1 .0) (c .before .pre .1 .1 .1))))
 
 returns : tie.Need-returns
 unfolding target
-returns c = (c .rounded-product .ensures .0, c .rounded-product .ensures .1)
+returns c = rw (← c .before .times .ensures) (c .rounded-product .ensures)
 
 pub target-of-spec : {M : Type 1} → statement M
-target-of-spec = tie.close (tie.spec mul-rounded-product rounded-product-requires returns)
+target-of-spec = tie.close (tie.spec times-requires rounded-product-requires returns)

@@ -14,8 +14,8 @@ is-given-requires c κs = search needs
 shortened-requires : tie.Need-shortened-requires
 shortened-requires c κs = search needs
 
-add-t5 : tie.Need-add-t5
-add-t5 c = search needs
+plus-requires : tie.Need-plus-requires
+plus-requires c κs = search needs
 
 returns : tie.Need-returns
 unfolding totalHits
@@ -23,8 +23,8 @@ returns c = (rw (c .if1 .taken) (c .before .shortened .ensures .0 ∙ ap (λ (b 
 
 returns-2 : tie.Need-returns-2
 unfolding totalHits
-returns-2 c = (rw (c .before .if1 .left, c .before .before .shortened .ensures .0, c .before .before .before .is-given .ensures), omega arith)
+returns-2 c = (rw (c .plus .ensures, c .before .if1 .left, c .before .before .shortened .ensures .0, c .before .before .before .is-given .ensures), omega arith)
 
 pub total-hits-spec : {M : Type 1} → statement M
 total-hits-spec =
-    tie.close (tie.spec is-given-requires shortened-requires add-t5 returns returns-2)
+    tie.close (tie.spec is-given-requires shortened-requires plus-requires returns returns-2)
