@@ -8,7 +8,7 @@ use lib.ListN.{length}
 use Rattle.little_endian.specs.Bytes.{u32At, bytes4, put}
 use Rattle.little_endian.proofs.Put.{bytes4-back}
 use Rattle.score_state.specs.declared.HitResults.{HitResults}
-use Rattle.inspect.specs.Answers.{Answer, worked}
+use Rattle.score_state.specs.Answer.{Answer, worked, statusOf}
 use Rattle.generate.specs.Generated.{generatedOf}
 use Rattle.generate.specs.declared.Generated.{Generated}
 use Rattle.generate.specs.declared.Generated.the-variants.{Counts, Refused}
@@ -26,16 +26,16 @@ pub put-refused
 unfolding answerBytes
 put-refused s at g n out e p = p ∙ ap (λ (x : Generated). put s at (answerBytes (generatedOf x))) (sym e)
 
-pub length-answer : (a : Answer) → length (answerBytes a) ≡ 32
+pub length-answer : (a : Answer (List ℕ)) → length (answerBytes a) ≡ 32
 unfolding answerBytes bytes4
 length-answer a = refl
 
 -- ---- the eight numbers of an answer's 32 bytes
-pub status-back : (a : Answer) → a .status < 4294967296 → u32At (answerBytes a) 0 ≡ a .status
+pub status-back : (a : Answer (List ℕ)) → statusOf a < 4294967296 → u32At (answerBytes a) 0 ≡ statusOf a
 unfolding answerBytes bytes4
-status-back a h = bytes4-back (a .status) h
+status-back a h = bytes4-back (statusOf a) h
 
-value-at : (a : Answer) (k : ℕ) → k < 7 → u32At (answerBytes a) (4 + 4 * k) ≡ u32At (bytes4 (value a k)) 0
+value-at : (a : Answer (List ℕ)) (k : ℕ) → k < 7 → u32At (answerBytes a) (4 + 4 * k) ≡ u32At (bytes4 (value a k)) 0
 unfolding answerBytes bytes4
 value-at a zero h = refl
 value-at a (suc zero) h = refl
@@ -46,5 +46,5 @@ value-at a (suc (suc (suc (suc (suc zero))))) h = refl
 value-at a (suc (suc (suc (suc (suc (suc zero)))))) h = refl
 value-at a (suc (suc (suc (suc (suc (suc (suc k))))))) h = absurd (omega arith)
 
-pub value-back : (a : Answer) (k : ℕ) → k < 7 → value a k < 4294967296 → u32At (answerBytes a) (4 + 4 * k) ≡ value a k
+pub value-back : (a : Answer (List ℕ)) (k : ℕ) → k < 7 → value a k < 4294967296 → u32At (answerBytes a) (4 + 4 * k) ≡ value a k
 value-back a k m h = value-at a k m ∙ bytes4-back (value a k) h

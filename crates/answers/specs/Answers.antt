@@ -4,12 +4,12 @@ use mathlib.Core.List.{List, _++_}
 use Prim.Native.Nat.{ℕ}
 use lib.ListN.{getD}
 use Rattle.little_endian.specs.Bytes.{bytes4}
-use Rattle.inspect.specs.Answers.{Answer}
+use Rattle.score_state.specs.Answer.{Answer, statusOf, valuesOf}
 
 -- the k-th value of an answer, from n320 (0) to tried (6); 0 where it has none
-abbrev pub value : Answer → ℕ → ℕ
-value a k = getD (a .values) k 0
+abbrev pub value : Answer (List ℕ) → ℕ → ℕ
+value a k = getD (valuesOf a) k 0
 
-unfoldable pub answerBytes : Answer → List ℕ
+unfoldable pub answerBytes : Answer (List ℕ) → List ℕ
 answerBytes a =
-    bytes4 (a .status) ++ bytes4 (value a 0) ++ bytes4 (value a 1) ++ bytes4 (value a 2) ++ bytes4 (value a 3) ++ bytes4 (value a 4) ++ bytes4 (value a 5) ++ bytes4 (value a 6)
+    bytes4 (statusOf a) ++ bytes4 (value a 0) ++ bytes4 (value a 1) ++ bytes4 (value a 2) ++ bytes4 (value a 3) ++ bytes4 (value a 4) ++ bytes4 (value a 5) ++ bytes4 (value a 6)

@@ -6,7 +6,7 @@ use lib.Ieee.{Float}
 use Rattle.score_state.specs.Accuracy as Score
 use Rattle.score_state.specs.declared.AccuracyAnswer.{AccuracyAnswer}
 use Rattle.score_state.specs.declared.AccuracyAnswer.the-variants.{Is, OverCap}
-use Rattle.inspect.specs.Answers.{Answer, refused, worked}
+use Rattle.score_state.specs.Answer.{Answer, refused, worked}
 use Rattle.sheets.specs.Sheets.{WorkedSheet, sheetOf}
 use Rattle.sheets.specs.Worked.{workedOf}
 use Rattle.sheets.specs.declared.SheetAnswer.{SheetAnswer}

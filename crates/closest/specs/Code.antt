@@ -16,7 +16,7 @@ use Rattle.score_state.specs.declared.Points.{Points}
 use Rattle.score_state.specs.declared.HitResults.{HitResults}
 use Rattle.inspect.specs.Presence.{has, given}
 use Rattle.inspect.specs.Inspect.{Inspect, totalHits, misses}
-use Rattle.inspect.specs.Answers.{Answer, worked, refused}
+use Rattle.score_state.specs.Answer.{Answer, worked, refused}
 use Rattle.closest_laws.specs.Loops.{Kept}
 use Rattle.closest_laws.specs.Closest.{Play, Last, six}
 use Rattle.closest_laws.specs.Presence.{held}
@@ -32,7 +32,7 @@ use Rattle.closest.specs.declared.Pair.{Pair as PairS}
 use Rattle.closest.specs.declared.Split.{Split as SplitS}
 
 -- each case of the answer
-abbrev pub answerOf : Closest → Answer
+abbrev pub answerOf : Closest → Answer (List ℕ)
 answerOf (Counts r) = worked (six r)
 answerOf Overfull = refused 12
 

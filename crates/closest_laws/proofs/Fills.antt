@@ -16,7 +16,7 @@ use Rattle.score_state.specs.declared.HitResults.{HitResults}
 use Rattle.inspect.specs.Presence.{has, given}
 use Rattle.inspect.specs.Inspect.{Inspect, totalHits, misses, remain}
 use Rattle.inspect.specs.Target.{target}
-use Rattle.inspect.specs.Answers.{Answer, worked, refused}
+use Rattle.score_state.specs.Answer.{Answer, worked, refused}
 use Rattle.closest_laws.specs.Loops.{Kept, each, offer, scan, nearer}
 use Rattle.rounding.specs.Quotient.{roundedUp}
 use Rattle.closest_laws.specs.Closest.{Play, provided, weights, resultOf, splitAt, solveTwo, solve, optimizeTwoMissing, optimizeThreePlusMissing, clamp, clampAndFill, six, byMissing, playOf, closestAt}
@@ -190,7 +190,7 @@ module _ (i : Inspect) (acc : Float) (p : Play) (ep : p ≡ playOf i acc) where
   unfolding playOf
   remain-of = refl
 
-  pub some-remain : (k a b c d e : ℕ) → (p .remain ≡ 0 → ⊥) → provided p ≡ held k a b c d e → (r : Answer) → r ≡ byMissing (lacking k) p → r ≡ closestAt i acc
+  pub some-remain : (k a b c d e : ℕ) → (p .remain ≡ 0 → ⊥) → provided p ≡ held k a b c d e → (r : Answer (List ℕ)) → r ≡ byMissing (lacking k) p → r ≡ closestAt i acc
   unfolding closestAt
   some-remain k a b c d e n h r f =
       let z : remain i ≡ 0 → ⊥ = λ (y : remain i ≡ 0). n (ap (λ (q : Play). q .remain) ep ∙ remain-of ∙ y) in

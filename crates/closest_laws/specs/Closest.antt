@@ -19,7 +19,7 @@ use Rattle.score_state.specs.Accuracy.{accuracyOf}
 use Rattle.score_state.specs.declared.HitResults.{HitResults}
 use Rattle.inspect.specs.Inspect.{Inspect, totalHits, misses, remain}
 use Rattle.inspect.specs.Target.{target}
-use Rattle.inspect.specs.Answers.{Answer, worked, refused}
+use Rattle.score_state.specs.Answer.{Answer, worked, refused}
 use Rattle.closest_laws.specs.Loops.{range, firstTwo, each, Kept, scan, nearer}
 
 -- ---- numbers
@@ -201,7 +201,7 @@ abbrev pub six : HitResults → List ℕ
 six r = r .n320 ∷ r .n300 ∷ r .n200 ∷ r .n100 ∷ r .n50 ∷ r .misses ∷ []
 
 -- by the number of missing counts; where the given ones are over remain, two missing are check 12, as the Rust overflows
-unfoldable pub byMissing : ℕ → Play → Answer
+unfoldable pub byMissing : ℕ → Play → Answer (List ℕ)
 byMissing zero p = worked (six (clampAndFill p))
 byMissing (suc zero) p = worked (six (clampAndFill p))
 byMissing (suc (suc zero)) p = cond (ltb (p .remain) (givenHits (provided p))) (refused 12) (worked (six (optimizeTwoMissing p)))
@@ -220,7 +220,7 @@ playOf i acc = record {
   n50 = i .n50;
 }
 
-unfoldable pub closestAt : Inspect → Float → Answer
+unfoldable pub closestAt : Inspect → Float → Answer (List ℕ)
 closestAt i acc =
     let p = playOf i acc in
     cond (eqb (remain i) 0) (worked (0 ∷ 0 ∷ 0 ∷ 0 ∷ 0 ∷ misses i ∷ []))

@@ -9,26 +9,26 @@ use borrow.Author.Tests.{lt-ltb, le-ltb, ne-eqb}
 use lib.Dec.{ltb, eqb}
 use lib.ListN.{length, drop, take}
 use lib.Seq.{sets, sets-eq}
-use Rattle.inspect.specs.Answers.{Answer, refused, worked}
+use Rattle.score_state.specs.Answer.{Answer, refused, worked, statusOf, valuesOf}
 use Rattle.direct.specs.Direct.{lent, either, handed, answerIn}
 
-pub handed-short : (n : ℕ) (a : Answer) (out : List ℕ) → length out < n → lent 5 out ≡ handed n a out
+pub handed-short : (n : ℕ) (a : Answer (List ℕ)) (out : List ℕ) → length out < n → lent 5 out ≡ handed n a out
 unfolding handed
 handed-short n a out h = rw (lt-ltb (length out) n h)
 
-pub handed-refused : (n k : ℕ) (a : Answer) (out : List ℕ) → n ≤ length out → refused k ≡ a → lent k out ≡ handed n a out
+pub handed-refused : (n k : ℕ) (a : Answer (List ℕ)) (out : List ℕ) → n ≤ length out → refused k ≡ a → lent k out ≡ handed n a out
 unfolding handed
 handed-refused n k a out h e =
-    ap (λ (y : Answer). lent (y .status) (y .values ++ drop (length (y .values)) out)) e
-    ∙ sym (ap (λ (b : Bool). either b (lent 5 out) (lent (a .status) (a .values ++ drop (length (a .values)) out))) (le-ltb (length out) n h))
+    ap (λ (y : Answer (List ℕ)). lent (statusOf y) (valuesOf y ++ drop (length (valuesOf y)) out)) e
+    ∙ sym (ap (λ (b : Bool). either b (lent 5 out) (lent (statusOf a) (valuesOf a ++ drop (length (valuesOf a)) out))) (le-ltb (length out) n h))
 
-pub handed-worked : (n : ℕ) (vs : List ℕ) (a : Answer) (out : List ℕ) → n ≤ length out → length vs ≤ n → worked vs ≡ a → lent 0 (sets out 0 vs) ≡ handed n a out
+pub handed-worked : (n : ℕ) (vs : List ℕ) (a : Answer (List ℕ)) (out : List ℕ) → n ≤ length out → length vs ≤ n → worked vs ≡ a → lent 0 (sets out 0 vs) ≡ handed n a out
 unfolding handed
 handed-worked n vs a out h k e =
     let room : 0 + length vs ≤ length out = omega arith in
     ap (lent 0) (sets-eq vs out 0 room ∙ ap (λ (m : ℕ). vs ++ drop m out) (zero-add (length vs)))
-    ∙ ap (λ (y : Answer). lent (y .status) (y .values ++ drop (length (y .values)) out)) e
-    ∙ sym (ap (λ (b : Bool). either b (lent 5 out) (lent (a .status) (a .values ++ drop (length (a .values)) out))) (le-ltb (length out) n h))
+    ∙ ap (λ (y : Answer (List ℕ)). lent (statusOf y) (valuesOf y ++ drop (length (valuesOf y)) out)) e
+    ∙ sym (ap (λ (b : Bool). either b (lent 5 out) (lent (statusOf a) (valuesOf a ++ drop (length (valuesOf a)) out))) (le-ltb (length out) n h))
 
 -- the answer that stands in the output
 pub told-refused : (n : ℕ) (vs : List ℕ) → 0 < n → answerIn n vs ≡ refused n

@@ -7,7 +7,7 @@ use lib.Dec.{ltb, eqb}
 use lib.ListN.{length, drop}
 use lib.Ieee.{Float}
 use Rattle.score_state.specs.declared.HitResults.{HitResults}
-use Rattle.inspect.specs.Answers.{Answer}
+use Rattle.score_state.specs.Answer.{Answer, worked, unless, statusOf, valuesOf}
 use Rattle.inspect.specs.Presence.{has}
 use Rattle.inspect.specs.declared.Accuracy.{Accuracy}
 use Rattle.inspect.specs.declared.Accuracy.the-variants.{Given, Absent}
@@ -29,12 +29,12 @@ either true a b = a
 either false a b = b
 
 -- an answer of n values, in front of what the output held
-unfoldable pub handed : ℕ → Answer → List ℕ → Lent
-handed n a out = either (ltb (length out) n) (lent 5 out) (lent (a .status) (a .values ++ drop (length (a .values)) out))
+unfoldable pub handed : ℕ → Answer (List ℕ) → List ℕ → Lent
+handed n a out = either (ltb (length out) n) (lent 5 out) (lent (statusOf a) (valuesOf a ++ drop (length (valuesOf a)) out))
 
 -- the answer that a call's result and its values tell
-abbrev pub answerIn : ℕ → List ℕ → Answer
-answerIn status values = record { status = status; values = cond (eqb status 0) values [] }
+abbrev pub answerIn : ℕ → List ℕ → Answer (List ℕ)
+answerIn status values = unless (eqb status 0) status (worked values)
 
 -- an accuracy that its bit of presence says is given
 abbrev pub accBy : Bool → Float → Accuracy

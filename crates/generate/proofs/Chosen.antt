@@ -7,7 +7,7 @@ use native.Mathlib.Omega.{arith}
 use borrow.Author.Tests.{ltb-true, ltb-false, eqb-true, eqb-false}
 use lib.Ieee.{Float}
 use Rattle.inspect.specs.Inspect.{Inspect}
-use Rattle.inspect.specs.Answers.{refused}
+use Rattle.score_state.specs.Answer.{refused}
 use Rattle.ignore_acc.specs.IgnoreAcc.{ignoreAcc}
 use Rattle.generate_laws.specs.Generate.{counted, byMethod}
 use Rattle.generate_laws.proofs.Answered.{ignored, acc-missing}

@@ -2,11 +2,11 @@
 -- the enum." A refused direct call has no counts; the values of another are n320, n300, n200, n100, n50, misses, tried.
 use Prim.Native.Nat.{_<_}
 use mathlib.Core.List.{[], _∷_}
-use Rattle.inspect.specs.Answers.{Answer, refused, worked}
+use Rattle.score_state.specs.Answer.{Answer, refused, worked}
 use Rattle.generate.specs.declared.Generated.{Generated}
 use Rattle.generate.specs.declared.Generated.the-variants.{Counts, Refused}
 
-abbrev pub generatedOf : Generated → Answer
+abbrev pub generatedOf : Generated → Answer (List ℕ)
 generatedOf (Counts c tried) = worked (c .n320 ∷ c .n300 ∷ c .n200 ∷ c .n100 ∷ c .n50 ∷ c .misses ∷ tried ∷ [])
 generatedOf (Refused n) = refused n
 

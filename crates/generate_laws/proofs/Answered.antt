@@ -12,13 +12,13 @@ use Rattle.score_state.specs.Points.{standard}
 use Rattle.score_state.specs.declared.HitResults.{HitResults}
 use Rattle.inspect.specs.Inspect.{Inspect, inspectOf, givens, misses, remain}
 use Rattle.inspect.specs.Checks.{stopOf}
-use Rattle.inspect.specs.Answers.{Answer, refused, worked, unless}
+use Rattle.score_state.specs.Answer.{Answer, refused, worked, unless}
 use Rattle.inspect.specs.declared.Query.{Query}
 use Rattle.ignore_acc.specs.IgnoreAcc.{ignoreAcc}
 use Rattle.fast.specs.Fast.{withAcc, byAcc}
 use Rattle.fast.proofs.Steps.{fast-given, fast-absent}
 use Rattle.closest_laws.specs.Closest.{closestAt}
-use Rattle.nearest_laws.specs.Nearest.{Found, nearest, nearestAnswer, Answer as Walked}
+use Rattle.nearest_laws.specs.Nearest.{Found, nearest}
 use Rattle.generate_laws.specs.Generate.{counted, untried, byMethod, closestOf, foundOf, nearestOf, answerBy}
 use Rattle.generate_laws.specs.Method3.{targetOf}
 
@@ -28,7 +28,7 @@ unfolding answerBy
 halted method q n e h = rw (← e, ne-eqb n 0 (λ (z : n ≡ 0). omega arith))
 
 -- none does
-pub worked-by : (method : ℕ) (q : Query) (n : ℕ) (a : Answer) → n ≡ stopOf q → n ≤ 0 → a ≡ byMethod method (inspectOf q) → a ≡ answerBy method q
+pub worked-by : (method : ℕ) (q : Query) (n : ℕ) (a : Answer (List ℕ)) → n ≡ stopOf q → n ≤ 0 → a ≡ byMethod method (inspectOf q) → a ≡ answerBy method q
 unfolding answerBy
 worked-by method q n a e h k =
     let z : n ≡ 0 = omega arith in
@@ -47,11 +47,11 @@ pub fast-at : (i : Inspect) (acc : Float) (r : HitResults) → i .acc ≡ some a
 unfolding byMethod
 fast-at i acc r e h = ap counted (fast-given i acc r e h)
 
-pub closest-at : (i : Inspect) (acc : Float) (a : Answer) → i .acc ≡ some acc → a ≡ untried (closestAt i acc) → a ≡ byMethod 2 i
+pub closest-at : (i : Inspect) (acc : Float) (a : Answer (List ℕ)) → i .acc ≡ some acc → a ≡ untried (closestAt i acc) → a ≡ byMethod 2 i
 unfolding byMethod closestOf
 closest-at i acc a e h = h ∙ ap (closestOf i) (sym e)
 
-pub nearest-at : (method : ℕ) (i : Inspect) (acc : Float) (a : Answer) → 3 ≤ method → i .acc ≡ some acc → a ≡ nearestOf i (some acc) → a ≡ byMethod method i
+pub nearest-at : (method : ℕ) (i : Inspect) (acc : Float) (a : Answer (List ℕ)) → 3 ≤ method → i .acc ≡ some acc → a ≡ nearestOf i (some acc) → a ≡ byMethod method i
 nearest-at method i acc a l e h = h ∙ ap (nearestOf i) (sym e) ∙ third method i l
 
 -- ---- and without one: methods 0 to 2 are IgnoreAccuracy, and 13
@@ -71,14 +71,10 @@ module _ (i : Inspect) (acc : Float) (ws : List ℕ) (T R m : ℕ) (ew : ws ≡ 
   same-walk : nearest ws (givens i) T R ≡ nearest (standard (i .classic)) (givens i) (targetOf i acc) (remain i)
   same-walk = rw (ew, et, er)
 
-  pub nearest-found : (a : Walked) (f : Found) → a ≡ nearestAnswer ws (givens i) T R → a .found ≡ some f → worked (f .counts ++ (m ∷ f .tried ∷ [])) ≡ nearestOf i (some acc)
-  unfolding nearestOf nearestAnswer foundOf
-  nearest-found a f e k =
-      let n : some f ≡ nearest (standard (i .classic)) (givens i) (targetOf i acc) (remain i) = sym k ∙ ap (λ (x : Walked). x .found) e ∙ same-walk in
-      ap (λ (x : ℕ). worked (f .counts ++ (x ∷ f .tried ∷ []))) em ∙ ap (foundOf i) n
+  pub nearest-found : (f : Found) → some f ≡ nearest ws (givens i) T R → worked (f .counts ++ (m ∷ f .tried ∷ [])) ≡ nearestOf i (some acc)
+  unfolding nearestOf foundOf
+  nearest-found f e = ap (λ (x : ℕ). worked (f .counts ++ (x ∷ f .tried ∷ []))) em ∙ ap (foundOf i) (e ∙ same-walk)
 
-  pub nearest-none : (a : Walked) → a ≡ nearestAnswer ws (givens i) T R → a .found ≡ none → refused 14 ≡ nearestOf i (some acc)
-  unfolding nearestOf nearestAnswer foundOf
-  nearest-none a e k =
-      let n : none ≡ nearest (standard (i .classic)) (givens i) (targetOf i acc) (remain i) = sym k ∙ ap (λ (x : Walked). x .found) e ∙ same-walk in
-      ap (foundOf i) n
+  pub nearest-none : none ≡ nearest ws (givens i) T R → refused 14 ≡ nearestOf i (some acc)
+  unfolding nearestOf foundOf
+  nearest-none e = ap (foundOf i) (e ∙ same-walk)

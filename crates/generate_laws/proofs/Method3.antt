@@ -17,7 +17,7 @@ use Rattle.score_state.specs.Given.{missing, givenHits}
 use Rattle.score_state.specs.declared.HitResults.{HitResults}
 use Rattle.inspect.specs.Inspect.{Inspect, inspectOf, givens, totalHits, misses, remain}
 use Rattle.inspect.specs.Checks.{chartOver, unknownCode, countOver, accOutside, stopOf}
-use Rattle.inspect.specs.Answers.{Answer, worked, refused}
+use Rattle.score_state.specs.Answer.{Answer, worked, refused, statusOf, valuesOf}
 use Rattle.inspect.specs.declared.Query.{Query}
 use Rattle.inspect.proofs.Checked.{domain, remain-and-misses, total-within}
 use Rattle.closest_laws.specs.Closest.{weights, provided, six, byMissing, playOf, optimizeTwoMissing, optimizeThreePlusMissing, clampAndFill, closestAt}
@@ -96,16 +96,16 @@ module _ (i : Inspect) (acc : Float) where
   stopped-is e = found-or true e
 
   -- 14 is told exactly where no split exists
-  found-fourteen : (foundOf i walked .status ≡ 14) ↔ ((xs : List ℕ) → IsSplit (givens i) (remain i) xs → ⊥)
+  found-fourteen : (statusOf (foundOf i walked) ≡ 14) ↔ ((xs : List ℕ) → IsSplit (givens i) (remain i) xs → ⊥)
   unfolding foundOf
   found-fourteen = (λ e. nearest-stops (givens i) (remain i) refl .0 (go (stops (givens i) (remain i)) refl e), λ n. back (nearest-stops (givens i) (remain i) refl .1 n))
     where
-      go : (b : Bool) → stops (givens i) (remain i) ≡ b → foundOf i walked .status ≡ 14 → stops (givens i) (remain i) ≡ true
+      go : (b : Bool) → stops (givens i) (remain i) ≡ b → statusOf (foundOf i walked) ≡ 14 → stops (givens i) (remain i) ≡ true
       go true s e = s
-      go false s e = let z : foundOf i (some (walkOf i acc)) .status ≡ 14 = sym (ap (λ (o : Option Found). foundOf i o .status) (walked-is s)) ∙ e in absurd (omega arith)
+      go false s e = let z : statusOf (foundOf i (some (walkOf i acc))) ≡ 14 = sym (ap (λ (o : Option Found). statusOf (foundOf i o)) (walked-is s)) ∙ e in absurd (omega arith)
 
-      back : stops (givens i) (remain i) ≡ true → foundOf i walked .status ≡ 14
-      back s = ap (λ (o : Option Found). foundOf i o .status) (stopped-is s)
+      back : stops (givens i) (remain i) ≡ true → statusOf (foundOf i walked) ≡ 14
+      back s = ap (λ (o : Option Found). statusOf (foundOf i o)) (stopped-is s)
 
 -- ---- no other check and no other method tells 14, and no number is larger
 stop-small : (q : Query) → stopOf q ≤ 11
@@ -120,8 +120,8 @@ stop-small q = go (chartOver (q .chart)) (unknownCode (q .method) (q .priority))
     go false false false false = omega arith
 
 -- Closest's answer with an accuracy: six counts, or 12
-abbrev SixOr12 : Answer → Type 0
-SixOr12 a = (a .status ≤ 12) × (a .status ≡ 0 → length (a .values) ≡ 6)
+abbrev SixOr12 : Answer (List ℕ) → Type 0
+SixOr12 a = (statusOf a ≤ 12) × (statusOf a ≡ 0 → length (valuesOf a) ≡ 6)
 
 six-counts : (r : HitResults) → SixOr12 (worked (six r))
 six-counts r = (omega arith, (λ e. refl))
@@ -147,38 +147,42 @@ closest-six i acc = go (eqb (remain i) 0) (length (missing (weights (playOf i ac
     go true n = (omega arith, (λ e. refl))
     go false n = by n
 
-closest-small : (i : Inspect) (o : Option Float) → closestOf i o .status ≤ 12
+untried-status : (a : Answer (List ℕ)) → statusOf (untried a) ≡ statusOf a
+untried-status (worked xs) = refl
+untried-status (refused n) = refl
+
+closest-small : (i : Inspect) (o : Option Float) → statusOf (closestOf i o) ≤ 12
 unfolding closestOf
 closest-small i none = omega arith
-closest-small i (some acc) = closest-six i acc .0
+closest-small i (some acc) = rw untried-status (closest-six i acc .0)
 
-found-status : (i : Inspect) (o : Option Found) → foundOf i o .status ≤ 14
+found-status : (i : Inspect) (o : Option Found) → statusOf (foundOf i o) ≤ 14
 unfolding foundOf
 found-status i none = omega arith
 found-status i (some f) = omega arith
 
-nearest-status : (i : Inspect) (o : Option Float) → nearestOf i o .status ≤ 14
+nearest-status : (i : Inspect) (o : Option Float) → statusOf (nearestOf i o) ≤ 14
 unfolding nearestOf
 nearest-status i none = omega arith
 nearest-status i (some acc) = found-status i (walked i acc)
 
-method-status : (m : ℕ) (i : Inspect) → byMethod m i .status ≤ 14
+method-status : (m : ℕ) (i : Inspect) → statusOf (byMethod m i) ≤ 14
 unfolding byMethod
 method-status zero i = omega arith
 method-status (suc zero) i = omega arith
 method-status (suc (suc zero)) i = omega (arith, closest-small i (i .acc))
 method-status (suc (suc (suc n))) i = nearest-status i (i .acc)
 
-pub status-small : (q : Query) → generateAnswer q .status ≤ 14
+pub status-small : (q : Query) → statusOf (generateAnswer q) ≤ 14
 status-small q = go (eqb (stopOf q) 0) refl
   where
-    go : (b : Bool) → eqb (stopOf q) 0 ≡ b → generateAnswer q .status ≤ 14
+    go : (b : Bool) → eqb (stopOf q) 0 ≡ b → statusOf (generateAnswer q) ≤ 14
     go true b = rw (passes q (eqb-true (stopOf q) 0 b)) (method-status (q .method) (inspectOf q))
     go false b = rw (halts q (eqb-false (stopOf q) 0 b)) (omega (arith, stop-small q))
 
 -- an answer of five counts at least, which are no more than a chart's hits
-pub record Small (a : Answer) : Type 0 where
-  pub long : 5 ≤ length (a .values)
+pub record Small (a : Answer (List ℕ)) : Type 0 where
+  pub long : 5 ≤ length (valuesOf a)
   pub few : hits (fiveOf a) ≤ 200_000
 
 -- of a walk's answer
@@ -212,51 +216,52 @@ pub record Fourteen (q : Query) : Type 0 where
   pub given : (inspectOf q) .acc ≡ some acc
   pub none-exists : (xs : List ℕ) → IsSplit (givens (inspectOf q)) (remain (inspectOf q)) xs → ⊥
 
-status-14 : (q : Query) → Fourteen q → generateAnswer q .status ≡ 14
+status-14 : (q : Query) → Fourteen q → statusOf (generateAnswer q) ≡ 14
 status-14 q f =
     let i = inspectOf q in
-    ap (λ (a : Answer). a .status)
+    ap (λ (a : Answer (List ℕ)). statusOf a)
     (passes q (f .passes) ∙ third (q .method) i (f .method) ∙ ap (λ (o : Option Float). nearestOf i o) (f .given))
     ∙ unfold nearestOf in found-fourteen i (f .acc) .1 (f .none-exists)
 
-nearest-14 : (i : Inspect) (o : Option Float) → nearestOf i o .status ≡ 14
+nearest-14 : (i : Inspect) (o : Option Float) → statusOf (nearestOf i o) ≡ 14
     → (acc : Float) × (o ≡ some acc) × ((xs : List ℕ) → IsSplit (givens i) (remain i) xs → ⊥)
 unfolding nearestOf
 nearest-14 i none e = absurd (omega arith)
 nearest-14 i (some acc) e = (acc, refl, found-fourteen i acc .0 e)
 
-method-14 : (m : ℕ) (i : Inspect) → m ≤ 3 → byMethod m i .status ≡ 14 → (m ≡ 3) × (nearestOf i (i .acc) .status ≡ 14)
+method-14 : (m : ℕ) (i : Inspect) → m ≤ 3 → statusOf (byMethod m i) ≡ 14 → (m ≡ 3) × (statusOf (nearestOf i (i .acc)) ≡ 14)
 unfolding byMethod
 method-14 zero i l e = absurd (omega arith)
 method-14 (suc zero) i l e = absurd (omega arith)
 method-14 (suc (suc zero)) i l e = absurd (omega (arith, closest-small i (i .acc)))
 method-14 (suc (suc (suc n))) i l e = (omega arith, e)
 
-only-14 : (q : Query) → generateAnswer q .status ≡ 14 → Fourteen q
+only-14 : (q : Query) → statusOf (generateAnswer q) ≡ 14 → Fourteen q
 only-14 q e = go (eqb (stopOf q) 0) refl
   where
     go : (b : Bool) → eqb (stopOf q) 0 ≡ b → Fourteen q
     go true b =
         let p = eqb-true (stopOf q) 0 b in
-        let m = method-14 (q .method) (inspectOf q) (domain q p .method) (ap (λ (a : Answer). a .status) (sym (passes q p)) ∙ e) in
+        let m = method-14 (q .method) (inspectOf q) (domain q p .method) (ap (λ (a : Answer (List ℕ)). statusOf a) (sym (passes q p)) ∙ e) in
         let n = nearest-14 (inspectOf q) ((inspectOf q) .acc) (m .1) in
         record { method = m .0; passes = p; acc = n .0; given = n .1; none-exists = n .2 }
     go false b =
-        let z : stopOf q ≡ 14 = ap (λ (a : Answer). a .status) (sym (halts q (eqb-false (stopOf q) 0 b))) ∙ e in
+        let z : stopOf q ≡ 14 = ap (λ (a : Answer (List ℕ)). statusOf a) (sym (halts q (eqb-false (stopOf q) 0 b))) ∙ e in
         absurd (omega (arith, stop-small q))
 
-pub fourteen : (q : Query) → (generateAnswer q .status ≡ 14) ↔ Fourteen q
+pub fourteen : (q : Query) → (statusOf (generateAnswer q) ≡ 14) ↔ Fourteen q
 fourteen q = (only-14 q, status-14 q)
 
 -- "Whenever two rows of one such sheet, one of method 2 and one of method 3, are alike in every other field, with exactly two of the
 -- five counts missing, and both have status 0, their counts lie equally far from that target": without the exception that the tender
 -- allows, as both methods aim at the same T.
-untried-five : (a : Answer) → SixOr12 a → untried a .status ≡ 0 → fiveOf (untried a) ≡ fiveOf a
-untried-five a h e =
-    ap (λ (b : Bool). take 5 (cond b (a .values ++ (0 ∷ [])) [])) (eq-eqb (a .status) 0 e)
-    ∙ take-append-le 5 (a .values) (0 ∷ []) (omega (arith, h .1 e))
+untried-five : (a : Answer (List ℕ)) → SixOr12 a → statusOf (untried a) ≡ 0 → (fiveOf (untried a) ≡ fiveOf a) × (5 ≤ length (valuesOf (untried a)))
+untried-five (worked xs) h e =
+    let l : length xs ≡ 6 = h .1 e in
+    (take-append-le 5 xs (0 ∷ []) (omega arith), simp length-append (omega arith))
+untried-five (refused n) h e = let l : 0 ≡ 6 = h .1 e in absurd (omega arith)
 
-pub record EquallyFar (i : Inspect) (a b : Answer) : Type 0 where
+pub record EquallyFar (i : Inspect) (a b : Answer (List ℕ)) : Type 0 where
   pub acc : Float
   pub given : i .acc ≡ some acc
   pub equal : distanceOf i acc (fiveOf a) ≡ distanceOf i acc (fiveOf b)
@@ -265,29 +270,23 @@ pub record EquallyFar (i : Inspect) (a b : Answer) : Type 0 where
 
 -- of Closest's with two missing
 untried-small
-    : (i : Inspect) (acc : Float) → length (missing (standard (i .classic)) (givens i)) ≡ 2 → closestAt i acc .status ≡ 0 → totalHits i ≤ 200_000
+    : (i : Inspect) (acc : Float) → length (missing (standard (i .classic)) (givens i)) ≡ 2 → statusOf (closestAt i acc) ≡ 0 → totalHits i ≤ 200_000
     → Small (untried (closestAt i acc))
 untried-small i acc two c t =
-    let h = closest-six i acc in
-    let l : length (closestAt i acc .values ++ (0 ∷ [])) ≡ length (closestAt i acc .values) + 1 = length-append (closestAt i acc .values) (0 ∷ []) in
-    let k : length (untried (closestAt i acc) .values) ≡ length (closestAt i acc .values ++ (0 ∷ [])) =
-    ap (λ (b : Bool). length (cond b (closestAt i acc .values ++ (0 ∷ [])) [])) (eq-eqb (closestAt i acc .status) 0 c) in
-    record {
-      long = omega (arith, h .1 c);
-      few = rw (untried-five (closestAt i acc) h c) (omega (arith, closest-hits i acc two c, remain-and-misses i));
-    }
+    let v = untried-five (closestAt i acc) (closest-six i acc) (untried-status (closestAt i acc) ∙ c) in
+    record { long = v .1; few = rw (v .0) (omega (arith, closest-hits i acc two c, remain-and-misses i)) }
 
 both-answer
     : (i : Inspect) (o : Option Float) → o ≡ i .acc → length (missing (standard (i .classic)) (givens i)) ≡ 2
-    → closestOf i o .status ≡ 0 → nearestOf i o .status ≡ 0 → totalHits i ≤ 200_000 → EquallyFar i (closestOf i o) (nearestOf i o)
+    → statusOf (closestOf i o) ≡ 0 → statusOf (nearestOf i o) ≡ 0 → totalHits i ≤ 200_000 → EquallyFar i (closestOf i o) (nearestOf i o)
 unfolding closestOf nearestOf foundOf
 both-answer i none h two c n t = absurd (omega arith)
 both-answer i (some acc) h two c n t = go (stops (givens i) (remain i)) refl n
   where
-    go : (b : Bool) → stops (givens i) (remain i) ≡ b → foundOf i (walked i acc) .status ≡ 0
+    go : (b : Bool) → stops (givens i) (remain i) ≡ b → statusOf (foundOf i (walked i acc)) ≡ 0
         → EquallyFar i (untried (closestAt i acc)) (foundOf i (walked i acc))
     go true s e =
-        let z : foundOf i none .status ≡ 0 = sym (ap (λ (o : Option Found). foundOf i o .status) (stopped-is i acc s)) ∙ e in
+        let z : statusOf (foundOf i none) ≡ 0 = sym (ap (λ (o : Option Found). statusOf (foundOf i o)) (stopped-is i acc s)) ∙ e in
         absurd (omega arith)
     go false s e =
         let w = walked-is i acc s in
@@ -296,25 +295,25 @@ both-answer i (some acc) h two c n t = go (stops (givens i) (remain i)) refl n
         record {
           acc = acc;
           given = sym h;
-          equal = ap (distanceOf i acc) (untried-five (closestAt i acc) (closest-six i acc) c)
-              ∙ equally-far i acc two (walkOf i acc) c w
+          equal = ap (distanceOf i acc) (untried-five (closestAt i acc) (closest-six i acc) c .0)
+              ∙ equally-far i acc two (walkOf i acc) (sym (untried-status (closestAt i acc)) ∙ c) w
               ∙ ap (distanceOf i acc) (sym k);
-          first = untried-small i acc two c t;
+          first = untried-small i acc two (sym (untried-status (closestAt i acc)) ∙ c) t;
           second = subst (λ (o : Option Found). Small (foundOf i o)) (sym w) (found-small i acc (walkOf i acc) w t);
         }
 
 -- an answer with status 0 passed the shared checks
-passed-0 : (q : Query) → generateAnswer q .status ≡ 0 → stopOf q ≡ 0
+passed-0 : (q : Query) → statusOf (generateAnswer q) ≡ 0 → stopOf q ≡ 0
 passed-0 q e = go (eqb (stopOf q) 0) refl
   where
     go : (b : Bool) → eqb (stopOf q) 0 ≡ b → stopOf q ≡ 0
     go true b = eqb-true (stopOf q) 0 b
-    go false b = ap (λ (a : Answer). a .status) (sym (halts q (eqb-false (stopOf q) 0 b))) ∙ e
+    go false b = ap (λ (a : Answer (List ℕ)). statusOf a) (sym (halts q (eqb-false (stopOf q) 0 b))) ∙ e
 
 pub equally
     : (q r : Query) → q .method ≡ 2 → r .method ≡ 3 → inspectOf q ≡ inspectOf r
     → length (missing (standard (q .classic)) (givens (inspectOf q))) ≡ 2
-    → generateAnswer q .status ≡ 0 → generateAnswer r .status ≡ 0
+    → statusOf (generateAnswer q) ≡ 0 → statusOf (generateAnswer r) ≡ 0
     → EquallyFar (inspectOf q) (generateAnswer q) (generateAnswer r)
 equally q r mq mr same two eq er =
     let i = inspectOf q in
@@ -322,5 +321,5 @@ equally q r mq mr same two eq er =
     let b : generateAnswer r ≡ nearestOf i (i .acc) =
     passes r (passed-0 r er) ∙ third (r .method) (inspectOf r) mr ∙ ap (λ (j : Inspect). nearestOf j (j .acc)) (sym same) in
     rw (a, b)
-    (both-answer i (i .acc) refl two (ap (λ (x : Answer). x .status) (sym a) ∙ eq) (ap (λ (x : Answer). x .status) (sym b) ∙ er)
+    (both-answer i (i .acc) refl two (ap (λ (x : Answer (List ℕ)). statusOf x) (sym a) ∙ eq) (ap (λ (x : Answer (List ℕ)). statusOf x) (sym b) ∙ er)
     (total-within q (domain q (passed-0 q eq))))

@@ -8,7 +8,7 @@ use Rattle.score_state.specs.Given.{or, missing, givenHits, givenPoints, fill}
 use Rattle.score_state.specs.Accuracy.{accuracyOf}
 use Rattle.inspect.specs.Inspect.{shortened, totalHits, cappedMisses, misses, remain}
 use Rattle.inspect.specs.Target.{target}
-use Rattle.inspect.specs.Checks.{chartOver, unknownCode, over, countOver, accOutside, stopOf}
+use Rattle.inspect.specs.Checks.{chartOver, unknownCode, overCap, countOver, accOutside, stopOf}
 use Rattle.ignore_acc.specs.IgnoreAcc.{assignSpecified, unwrapOrElse, secondPass, passes, addShortfall, bestCase, worstCase, byPriority, ignoreAcc}
 use Rattle.fast.specs.Fast.{ifNone, clamped, prelim, provided, numProvided, allProvided, oneMissing, numerator, targetTotal, deltaOf, upgrade, upgrades, firstMissing, leftPlace, plusLeft, addLeft, threeOrFewer, provide, withAcc, byAcc, fast}
 use Rattle.closest_laws.specs.Loops as Loops
@@ -23,5 +23,5 @@ use Rattle.generate_laws.specs.Generate.{closestOf, foundOf, nearestOf, 
 use Rattle.generate_laws.specs.Plays.{plays, sameList, right, all}
 
 pub plays-right : T (all right plays)
-unfolding plays sameList right generateAnswer answerBy byMethod closestOf foundOf nearestOf lt le mul sub div neg ofInt ofBits roundEven distance hits points gap or missing givenHits givenPoints fill accuracyOf shortened totalHits cappedMisses misses remain target chartOver unknownCode over countOver accOutside stopOf assignSpecified unwrapOrElse secondPass passes addShortfall bestCase worstCase byPriority ignoreAcc ifNone clamped prelim provided numProvided allProvided oneMissing numerator targetTotal deltaOf upgrade upgrades firstMissing leftPlace plusLeft addLeft threeOrFewer provide withAcc byAcc fast from range each Loops.offer scan nearer roundedUp resultOf splitAt solveTwo solve optimizeTwoMissing lastAt optimizeLastThree space values values320 values300 resultAt tryAt inner outer Closest.start search optimizeThreePlusMissing clamp clampAndFill byMissing playOf closestAt gcdIn gcd stride Walk.start Walk.over better Walk.offer settle lowest trial pair rows settings lastOf initOf middles middlesOf candidates walk fold allGiven stops found nearest
+unfolding plays sameList right generateAnswer answerBy byMethod closestOf foundOf nearestOf lt le mul sub div neg ofInt ofBits roundEven distance hits points gap or missing givenHits givenPoints fill accuracyOf shortened totalHits cappedMisses misses remain target chartOver unknownCode overCap countOver accOutside stopOf assignSpecified unwrapOrElse secondPass passes addShortfall bestCase worstCase byPriority ignoreAcc ifNone clamped prelim provided numProvided allProvided oneMissing numerator targetTotal deltaOf upgrade upgrades firstMissing leftPlace plusLeft addLeft threeOrFewer provide withAcc byAcc fast from range each Loops.offer scan nearer roundedUp resultOf splitAt solveTwo solve optimizeTwoMissing lastAt optimizeLastThree space values values320 values300 resultAt tryAt inner outer Closest.start search optimizeThreePlusMissing clamp clampAndFill byMissing playOf closestAt gcdIn gcd stride Walk.start Walk.over better Walk.offer settle lowest trial pair rows settings lastOf initOf middles middlesOf candidates walk fold allGiven stops found nearest
 plays-right = tt

@@ -1,21 +1,21 @@
 // ignore_acc.rs: the counts by priority alone; the accuracy plays no part.
 ghost use mathlib.Core.Path.{_≡_};
 ghost use Prim.Native.Nat.{_<_, _≤_};
+ghost use Rattle.score_state.specs.Limits.{mostHits};
 ghost use Rattle.score_state.specs.Points as Points;
 ghost use Rattle.inspect.specs.Presence.{has, given};
 ghost use Rattle.inspect.specs.Inspect as Inspect;
 ghost use Rattle.inspect.specs.Inspect.{inspectOf};
 ghost use Rattle.inspect.specs.Checks.{Domain};
 ghost use Rattle.ignore_acc.specs.IgnoreAcc.{assignSpecified, unwrapOrElse, fiveSum, secondPass, addShortfall, passes, ignoreAcc};
-ghost use Rattle.ignore_acc.specs.Code.{countOf, assignedOf, filledOf, fiveOf};
+ghost use Rattle.ignore_acc.specs.Code.{countOf, assignedOf, filledOf, fiveOf, bestCounts, worstCounts};
 use inspect::Query;
-use inspect::least;
 use score_state::HitResults;
 use score_state::Hits;
 
 // A count that may be missing: `Option<u32>`.
 enum Count {
-    Given(u32),
+    Given(Hits),
     Missing,
 }
 
@@ -27,17 +27,17 @@ struct Assigned {
 
 // What a count is filled with, and what then remains.
 struct Filled {
-    count: u32,
+    count: Hits,
     remain: Hits,
 }
 
 // Five counts in priority order, and what still remains.
 struct Five {
-    first: u32,
-    second: u32,
-    third: u32,
-    fourth: u32,
-    fifth: u32,
+    first: Hits,
+    second: Hits,
+    third: Hits,
+    fourth: Hits,
+    fifth: Hits,
     remain: Hits,
 }
 
@@ -47,7 +47,7 @@ fn count_of(presence: u8, place: u8, n: u32) -> Count
     ensures { λ r. ⌜ countOf r ≡ given (has presence place) n ⌝ }
 {
     if inspect::is_given(presence, place) {
-        Count::Given(n)
+        Count::Given(Hits(n))
     } else {
         Count::Missing
     }
@@ -61,10 +61,10 @@ impl Assigned {
         let remain = self.remain;
         match specified {
             Count::Given(n) => {
-                let assigned = least(n, remain.0);
+                let assigned = n.least(remain);
                 Assigned {
                     count: Count::Given(assigned),
-                    remain: Hits(remain.0 - assigned),
+                    remain: remain.minus(assigned),
                 }
             }
             Count::Missing => Assigned {
@@ -88,7 +88,7 @@ impl Filled {
                 self.count = n;
             }
             Count::Missing => {
-                self.count = remain.0;
+                self.count = remain;
                 self.remain = nothing;
             }
         }
@@ -102,7 +102,7 @@ fn second_pass(a: Assigned, b: Assigned, c: Assigned, d: Assigned, e: Assigned) 
 {
     let remain = e.remain;
     let start = Filled {
-        count: 0,
+        count: Hits(0),
         remain: remain,
     };
     let first = start.unwrap_or_else(a);
@@ -110,13 +110,18 @@ fn second_pass(a: Assigned, b: Assigned, c: Assigned, d: Assigned, e: Assigned) 
     let third = second.unwrap_or_else(c);
     let fourth = third.unwrap_or_else(d);
     let fifth = fourth.unwrap_or_else(e);
+    let n1 = first.count;
+    let n2 = second.count;
+    let n3 = third.count;
+    let n4 = fourth.count;
+    let n5 = fifth.count;
     let left = fifth.remain;
     Five {
-        first: first.count,
-        second: second.count,
-        third: third.count,
-        fourth: fourth.count,
-        fifth: fifth.count,
+        first: n1,
+        second: n2,
+        third: n3,
+        fourth: n4,
+        fifth: n5,
         remain: left,
     }
 }
@@ -124,20 +129,48 @@ fn second_pass(a: Assigned, b: Assigned, c: Assigned, d: Assigned, e: Assigned) 
 impl Five {
     // The shortfall, where all five are given, goes to the first: `n320 += remain`, or n50.
     fn add_shortfall(mut self) -> Five
-        requires { ⌜ fiveSum (fiveOf self) ≤ 200_000 ⌝ }
+        requires { ⌜ fiveSum (fiveOf self) ≤ mostHits ⌝ }
         ensures { λ r. ⌜ fiveOf r ≡ addShortfall (fiveOf self) ⌝ }
     {
+        let first = self.first;
         let left = self.remain;
         let nothing = Hits(0);
-        self.first += left.0;
+        let all = first.plus(left);
+        self.first = all;
         self.remain = nothing;
         self
     }
 }
 
+impl Five {
+    // In the order of the counts, from n320 on.
+    fn best_case(self, misses: Hits) -> HitResults
+        ensures { λ r. ⌜ r ≡ bestCounts (fiveOf self) (misses .0) ⌝ }
+    {
+        let n320 = self.first;
+        let n300 = self.second;
+        let n200 = self.third;
+        let n100 = self.fourth;
+        let n50 = self.fifth;
+        HitResults::of(n320, n300, n200, n100, n50, misses)
+    }
+
+    // From n50 on.
+    fn worst_case(self, misses: Hits) -> HitResults
+        ensures { λ r. ⌜ r ≡ worstCounts (fiveOf self) (misses .0) ⌝ }
+    {
+        let n320 = self.fifth;
+        let n300 = self.fourth;
+        let n200 = self.third;
+        let n100 = self.second;
+        let n50 = self.first;
+        HitResults::of(n320, n300, n200, n100, n50, misses)
+    }
+}
+
 // First pass: assign specified values in priority order; then the second, and the shortfall.
 fn passes_of(remain: Hits, a: Count, b: Count, c: Count, d: Count, e: Count) -> Five
-    requires { ⌜ remain .0 ≤ 200_000 ⌝ }
+    requires { ⌜ remain .0 ≤ mostHits ⌝ }
     ensures { λ r. ⌜ fiveOf r ≡ passes (remain .0) (countOf a) (countOf b) (countOf c) (countOf d) (countOf e) ⌝ }
 {
     let start = Assigned {
@@ -161,34 +194,14 @@ pub fn generate_hitresults(q: Query) -> HitResults
 {
     let misses = inspect::misses(q);
     let remain = inspect::remain(q);
-    let n320 = count_of(q.presence, 1, q.n320);
-    let n300 = count_of(q.presence, 2, q.n300);
-    let n200 = count_of(q.presence, 4, q.n200);
-    let n100 = count_of(q.presence, 8, q.n100);
-    let n50 = count_of(q.presence, 16, q.n50);
+    let n320 = count_of(q.presence, inspect::N320, q.n320);
+    let n300 = count_of(q.presence, inspect::N300, q.n300);
+    let n200 = count_of(q.presence, inspect::N200, q.n200);
+    let n100 = count_of(q.presence, inspect::N100, q.n100);
+    let n50 = count_of(q.presence, inspect::N50, q.n50);
     let priority = q.priority;
     match priority {
-        0 => {
-            let best = passes_of(remain, n320, n300, n200, n100, n50);
-            HitResults {
-                n320: best.first,
-                n300: best.second,
-                n200: best.third,
-                n100: best.fourth,
-                n50: best.fifth,
-                misses: misses.0,
-            }
-        }
-        _ => {
-            let worst = passes_of(remain, n50, n100, n200, n300, n320);
-            HitResults {
-                n320: worst.fifth,
-                n300: worst.fourth,
-                n200: worst.third,
-                n100: worst.second,
-                n50: worst.first,
-                misses: misses.0,
-            }
-        }
+        0 => passes_of(remain, n320, n300, n200, n100, n50).best_case(misses),
+        _ => passes_of(remain, n50, n100, n200, n300, n320).worst_case(misses),
     }
 }

@@ -18,7 +18,8 @@ use mathlib.Core.List.{[], _∷_}
 use Rattle.score_state.specs.Points.{perfectWeight}
 use Rattle.inspect.specs.Inspect.{Inspect, inspectOf, accOf, shortened, totalHits, cappedMisses, misses, remain}
 use Rattle.inspect.specs.Target.{target}
-use Rattle.inspect.specs.Answers.{refused, worked, unless, targetValues, targetAnswer}
+use Rattle.score_state.specs.Answer.{refused, worked, unless}
+use Rattle.inspect.specs.Answers.{targetValues, targetAnswer}
 use Rattle.inspect.specs.declared.Accuracy.{Accuracy}
 use Rattle.inspect.specs.declared.Accuracy.the-variants.{Given, Absent}
 use Rattle.inspect.specs.Checks.{chartOver, chartLimit, unknownCode, overCap, countOver, accOutside, stopOf, InRange, Domain}

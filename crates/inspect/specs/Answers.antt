@@ -1,12 +1,12 @@
 -- Document 01, Where a row or sheet stops: "A direct call .. refuses by 7, 8, 10 to 14 with no counts", and Language forms: "For
 -- every answer that is an enum, a definition gives this paper's number and values for each case of the enum."
 use Prim.Native.Nat.{ℕ}
-use mathlib.Core.Bool.{Bool, true, false}
 use mathlib.Core.List.{List, [], _∷_}
 use mathlib.Core.Option.{Option, none, some}
 use lib.Dec.{eqb}
 use lib.Ieee.{Float}
 use Rattle.score_state.specs.Points.{perfectWeight}
+use Rattle.score_state.specs.Answer.{Answer, worked, refused, unless}
 use Rattle.inspect.specs.Inspect.{Inspect, inspectOf, totalHits, misses, remain}
 use Rattle.inspect.specs.Target.{target}
 use Rattle.inspect.specs.Checks.{stopOf}
@@ -14,32 +14,16 @@ use Rattle.inspect.specs.declared.Query.{Query}
 use Rattle.inspect.specs.declared.TargetAnswer.{TargetAnswer}
 use Rattle.inspect.specs.declared.TargetAnswer.the-variants.{Is, Refused}
 
--- An answer as document 01 gives it: its status, 0 or the number of the check that stops, and its values, none where it is stopped.
-pub record Answer : Type 0 where
-  pub status : ℕ
-  pub values : List ℕ
-
-abbrev pub refused : ℕ → Answer
-refused n = record { status = n; values = [] }
-
-abbrev pub worked : List ℕ → Answer
-worked xs = record { status = 0; values = xs }
-
--- stopped by n, unless n is 0
-abbrev pub unless : Bool → ℕ → Answer → Answer
-unless true n a = a
-unless false n a = refused n
-
 -- total hits, misses, remain and the rounded target of a query; without an accuracy there is none (13)
-abbrev pub targetValues : Inspect → Option Float → Answer
+abbrev pub targetValues : Inspect → Option Float → Answer (List ℕ)
 targetValues i none = refused 13
 targetValues i (some acc) = worked (totalHits i ∷ misses i ∷ remain i ∷ target acc (perfectWeight (i .classic)) (totalHits i) ∷ [])
 
 -- what `rounded_target` answers
-unfoldable pub targetAnswer : Query → Answer
+unfoldable pub targetAnswer : Query → Answer (List ℕ)
 targetAnswer q = unless (eqb (stopOf q) 0) (stopOf q) (targetValues (inspectOf q) ((inspectOf q) .acc))
 
 -- each case of its answer
-abbrev pub answerOf : TargetAnswer → Answer
+abbrev pub answerOf : TargetAnswer → Answer (List ℕ)
 answerOf (Is t) = worked (t .«total_hits» .0 ∷ t .misses .0 ∷ t .remain .0 ∷ t .target .0 ∷ [])
 answerOf (Refused n) = refused n

@@ -10,7 +10,7 @@ use lib.Ieee.{binary64, ofBits}
 use lib.ListN.{length, getD}
 use Rattle.inspect.specs.Presence.{has}
 use Rattle.inspect.specs.Checks.{chartOver}
-use Rattle.inspect.specs.Answers.{Answer, unless}
+use Rattle.score_state.specs.Answer.{Answer, unless}
 use Rattle.inspect.specs.declared.Chart.{Chart}
 use Rattle.inspect.specs.declared.Query.{Query}
 use Rattle.generate_laws.specs.Generate.{generateAnswer}
@@ -63,9 +63,9 @@ queryOf row chart =
     }
 
 -- the answer of a row whose chart is found: what the direct call answers, unless a check stops it before
-unfoldable pub foundAnswer : Row → Chart → Answer
+unfoldable pub foundAnswer : Row → Chart → Answer (List ℕ)
 foundAnswer row chart = unless (eqb (rowStop row chart) 0) (rowStop row chart) (generateAnswer (queryOf row chart))
 
 -- the answer of a row of a sheet with these charts
-unfoldable pub rowAnswer : Row → List Chart → Answer
+unfoldable pub rowAnswer : Row → List Chart → Answer (List ℕ)
 rowAnswer row charts = unless (ltb (row .chart) (length charts)) 6 (foundAnswer row (getD charts (row .chart) noChart))

@@ -2,11 +2,11 @@
 -- (`ManiaHitResults::accuracy` of score_state.rs), and Where a row or sheet stops: `accuracy` refuses "by 10", "a count over 1,000,000".
 use Prim.Native.Nat.{ℕ, _*_, _≤_}
 use mathlib.Core.Bool.{Bool, cond, _||_}
-use mathlib.Core.Option.{Option, none, some}
 use lib.Dec.{eqb, ltb}
 use lib.Ieee.{Float}
 use Rattle.rounding.specs.Round.{zero64}
 use Rattle.rounding.specs.Distance.{ratio}
+use Rattle.score_state.specs.Answer.{Answer, worked, refused}
 use Rattle.score_state.specs.Points.{perfectWeight, standard, points, countsOf, totalHits}
 use Rattle.score_state.specs.declared.HitResults.{HitResults}
 use Rattle.score_state.specs.declared.AccuracyAnswer.{AccuracyAnswer}
@@ -35,20 +35,11 @@ pub record Capped (r : HitResults) : Type 0 where
   pub n50 : r .n50 ≤ cap
   pub misses : r .misses ≤ cap
 
--- An answer as document 01 gives it: its number, 0 or the check that stops, and its value.
-pub record Answer : Type 0 where
-  pub status : ℕ
-  pub value : Option Float
-
 -- each case of the call's answer
-abbrev pub answerOf : AccuracyAnswer → Answer
-answerOf (Is x) = record { status = 0; value = some x }
-answerOf OverCap = record { status = 10; value = none }
+abbrev pub answerOf : AccuracyAnswer → Answer Float
+answerOf (Is x) = worked x
+answerOf OverCap = refused 10
 
 -- what `accuracy` answers
-unfoldable pub accuracyAnswer : HitResults → Bool → Answer
-accuracyAnswer r classic =
-    record {
-      status = cond (overCap r) 10 0;
-      value = cond (overCap r) none (some (accuracyOf r classic));
-    }
+unfoldable pub accuracyAnswer : HitResults → Bool → Answer Float
+accuracyAnswer r classic = cond (overCap r) (refused 10) (worked (accuracyOf r classic))

@@ -1,4 +1,5 @@
 pub mod Limits
 pub mod Points
 pub mod Given
+pub mod Answer
 pub mod Accuracy

@@ -4,7 +4,7 @@ use native.Mathlib.Nat.{not-le-of-lt}
 use mathlib.Core.Path.{_≡_, ap, _∙_}
 use lib.ListN.{length}
 use Rattle.generate.specs.Generated.{generatedOf}
-use Rattle.inspect.specs.Answers.{Answer}
+use Rattle.score_state.specs.Answer.{Answer}
 use Rattle.generate_laws.specs.Generate.{generateAnswer}
 use Rattle.direct.specs.Direct.{sixCounts, queryBy, handed}
 use Rattle.direct.proofs.Handed.{handed-short}

@@ -1,7 +1,7 @@
 -- `generate::by_method` meets its contract. Assumes nothing.
 use mathlib.Core.Path.{sym, ap, _∙_}
 use lib.Dec.{lit<}
-use Rattle.inspect.specs.Answers.{refused}
+use Rattle.score_state.specs.Answer.{refused}
 use Rattle.inspect.specs.Inspect.{inspectOf, accOf}
 use Rattle.inspect.specs.declared.Accuracy.{Accuracy}
 use Rattle.inspect.proofs.Checked.{in-domain, acc-within}

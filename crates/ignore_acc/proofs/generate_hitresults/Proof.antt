@@ -31,26 +31,34 @@ count-of-requires-5 c κs = search needs
 passes-of-requires : tie.Need-passes-of-requires
 passes-of-requires c κs = search needs
 
+best-case-requires : tie.Need-best-case-requires
+best-case-requires c κs = search needs
+
 passes-of-requires-2 : tie.Need-passes-of-requires-2
 passes-of-requires-2 c κs = search needs
 
+worst-case-requires : tie.Need-worst-case-requires
+worst-case-requires c κs = search needs
+
 returns : tie.Need-returns
 returns c =
-    let i = inspectOf (c .before .before .before .before .before .before .before .before .before .args .q) in
-    best-is i (c .before .before .before .before .before .before .before .remain .result .0) (c .before .before .before .before .before .before .before .before .misses .result .0)
-    (countOf (c .before .before .before .before .before .before .count-of .result)) (countOf (c .before .before .before .before .before .count-of2 .result)) (countOf (c .before .before .before .before .count-of3 .result)) (countOf (c .before .before .before .count-of4 .result)) (countOf (c .before .before .count-of5 .result))
-    (fiveOf (c .passes-of .result)) (c .before .before .before .before .before .before .before .remain .ensures .0) (c .before .before .before .before .before .before .before .before .misses .ensures .0)
-    (c .before .before .before .before .before .before .count-of .ensures) (c .before .before .before .before .before .count-of2 .ensures) (c .before .before .before .before .count-of3 .ensures) (c .before .before .before .count-of4 .ensures) (c .before .before .count-of5 .ensures)
-    (ap priorityOf (c .before .match .keys1)) (c .passes-of .ensures)
+    let i = inspectOf (c .before .before .before .before .before .before .before .before .before .before .args .q) in
+    rw (c .best-case .ensures)
+    (best-is i (c .before .before .before .before .before .before .before .before .remain .result .0) (c .before .before .before .before .before .before .before .before .before .misses .result .0)
+    (countOf (c .before .before .before .before .before .before .before .count-of .result)) (countOf (c .before .before .before .before .before .before .count-of2 .result)) (countOf (c .before .before .before .before .before .count-of3 .result)) (countOf (c .before .before .before .before .count-of4 .result)) (countOf (c .before .before .before .count-of5 .result))
+    (fiveOf (c .before .passes-of .result)) (c .before .before .before .before .before .before .before .before .remain .ensures .0) (c .before .before .before .before .before .before .before .before .before .misses .ensures .0)
+    (c .before .before .before .before .before .before .before .count-of .ensures) (c .before .before .before .before .before .before .count-of2 .ensures) (c .before .before .before .before .before .count-of3 .ensures) (c .before .before .before .before .count-of4 .ensures) (c .before .before .before .count-of5 .ensures)
+    (ap priorityOf (c .before .before .match .keys1)) (c .before .passes-of .ensures))
 
 returns-2 : tie.Need-returns-2
 returns-2 c =
-    let i = inspectOf (c .before .before .before .before .before .before .before .before .before .args .q) in
-    worst-is i (c .before .before .before .before .before .before .before .remain .result .0) (c .before .before .before .before .before .before .before .before .misses .result .0)
-    (countOf (c .before .before .before .before .before .before .count-of .result)) (countOf (c .before .before .before .before .before .count-of2 .result)) (countOf (c .before .before .before .before .count-of3 .result)) (countOf (c .before .before .before .count-of4 .result)) (countOf (c .before .before .count-of5 .result))
-    (fiveOf (c .passes-of2 .result)) (c .before .before .before .before .before .before .before .remain .ensures .0) (c .before .before .before .before .before .before .before .before .misses .ensures .0)
-    (c .before .before .before .before .before .before .count-of .ensures) (c .before .before .before .before .before .count-of2 .ensures) (c .before .before .before .before .count-of3 .ensures) (c .before .before .before .count-of4 .ensures) (c .before .before .count-of5 .ensures)
-    (worst-of (c .before .before .before .before .before .before .before .before .before .args .q .priority) (c .before .match .rest .1)) (c .passes-of2 .ensures)
+    let i = inspectOf (c .before .before .before .before .before .before .before .before .before .before .args .q) in
+    rw (c .worst-case .ensures)
+    (worst-is i (c .before .before .before .before .before .before .before .before .remain .result .0) (c .before .before .before .before .before .before .before .before .before .misses .result .0)
+    (countOf (c .before .before .before .before .before .before .before .count-of .result)) (countOf (c .before .before .before .before .before .before .count-of2 .result)) (countOf (c .before .before .before .before .before .count-of3 .result)) (countOf (c .before .before .before .before .count-of4 .result)) (countOf (c .before .before .before .count-of5 .result))
+    (fiveOf (c .before .passes-of2 .result)) (c .before .before .before .before .before .before .before .before .remain .ensures .0) (c .before .before .before .before .before .before .before .before .before .misses .ensures .0)
+    (c .before .before .before .before .before .before .before .count-of .ensures) (c .before .before .before .before .before .before .count-of2 .ensures) (c .before .before .before .before .before .count-of3 .ensures) (c .before .before .before .before .count-of4 .ensures) (c .before .before .before .count-of5 .ensures)
+    (worst-of (c .before .before .before .before .before .before .before .before .before .before .args .q .priority) (c .before .before .match .rest .1)) (c .before .passes-of2 .ensures))
 
 pub generate-hitresults-spec : {M : Type 1} → statement M
 generate-hitresults-spec =
@@ -64,6 +72,8 @@ generate-hitresults-spec =
     count-of-requires-4
     count-of-requires-5
     passes-of-requires
+    best-case-requires
     passes-of-requires-2
+    worst-case-requires
     returns
     returns-2)

@@ -22,12 +22,12 @@ unwrap-or-else-requires-5 c κs = search needs
 
 returns : tie.Need-returns
 returns c =
-    let x = c .before .before .before .before .before .before .before .args in
+    let x = c .before .before .before .before .before .before .before .before .before .before .before .before .args in
     second-is (assignedOf (x .a)) (assignedOf (x .b)) (assignedOf (x .c)) (assignedOf (x .d)) (assignedOf (x .e))
-    (filledOf (c .before .before .before .before .before .unwrap-or-else .result)) (filledOf (c .before .before .before .before .unwrap-or-else2 .result)) (filledOf (c .before .before .before .unwrap-or-else3 .result))
-    (filledOf (c .before .before .unwrap-or-else4 .result)) (filledOf (c .before .unwrap-or-else5 .result))
-    (c .before .before .before .before .before .unwrap-or-else .ensures) (c .before .before .before .before .unwrap-or-else2 .ensures) (c .before .before .before .unwrap-or-else3 .ensures)
-    (c .before .before .unwrap-or-else4 .ensures) (c .before .unwrap-or-else5 .ensures)
+    (filledOf (c .before .before .before .before .before .before .before .before .before .before .unwrap-or-else .result)) (filledOf (c .before .before .before .before .before .before .before .before .before .unwrap-or-else2 .result)) (filledOf (c .before .before .before .before .before .before .before .before .unwrap-or-else3 .result))
+    (filledOf (c .before .before .before .before .before .before .before .unwrap-or-else4 .result)) (filledOf (c .before .before .before .before .before .before .unwrap-or-else5 .result))
+    (c .before .before .before .before .before .before .before .before .before .before .unwrap-or-else .ensures) (c .before .before .before .before .before .before .before .before .before .unwrap-or-else2 .ensures) (c .before .before .before .before .before .before .before .before .unwrap-or-else3 .ensures)
+    (c .before .before .before .before .before .before .before .unwrap-or-else4 .ensures) (c .before .before .before .before .before .before .unwrap-or-else5 .ensures)
 
 pub second-pass-spec : {M : Type 1} → statement M
 second-pass-spec =

@@ -13,7 +13,7 @@ enum-told : tie.Need-enum-told
 enum-told c = search needs
 
 returns : tie.Need-returns
-returns c = filled-some (countOf (c .before .before .before .before .args .assigned .count)) (c .before .count .given .0 .0) (c .before .before .before .before .args .self .remain .0) (ap countOf (c .before .count .given .1))
+returns c = filled-some (countOf (c .before .before .before .before .args .assigned .count)) (c .before .count .given .0 .0 .0) (c .before .before .before .before .args .self .remain .0) (ap countOf (c .before .count .given .1))
 
 returns-2 : tie.Need-returns-2
 returns-2 c = filled-none (countOf (c .before .before .before .args .assigned .count)) (c .before .before .before .args .self .remain .0) (ap countOf (c .enum-told .given .1))

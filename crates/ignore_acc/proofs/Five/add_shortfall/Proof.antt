@@ -5,12 +5,12 @@ use borrow.Author.Needs.{needs}
 use Rattle.ignore_acc.proofs.Five.add_shortfall.Statement.{statement}
 use Rattle.ignore_acc.proofs.Five.add_shortfall.Tie as tie
 
-add-self : tie.Need-add-self
-add-self c = search needs
+plus-requires : tie.Need-plus-requires
+plus-requires c κs = search needs
 
 returns : tie.Need-returns
 unfolding addShortfall
-returns c = refl
+returns c = rw (c .plus .ensures)
 
 pub add-shortfall-spec : {M : Type 1} → statement M
-add-shortfall-spec = tie.close (tie.spec add-self returns)
+add-shortfall-spec = tie.close (tie.spec plus-requires returns)
