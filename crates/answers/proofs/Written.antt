@@ -8,35 +8,36 @@ use lib.ListN.{length}
 use Rattle.little_endian.specs.Bytes.{u32At, bytes4, put}
 use Rattle.little_endian.proofs.Put.{bytes4-back}
 use Rattle.score_state.specs.declared.HitResults.{HitResults}
-use Rattle.score_state.specs.Answer.{Answer, worked, statusOf}
+use Rattle.score_state.specs.Answer.{Answer, statusOf}
 use Rattle.generate.specs.Generated.{generatedOf}
 use Rattle.generate.specs.declared.Generated.{Generated}
 use Rattle.generate.specs.declared.Generated.the-variants.{Counts, Refused}
-use Rattle.answers.specs.Answers.{answerBytes, value}
+use Rattle.answers.specs.Answers.{fieldBytes, answerBytes, value}
 
 pub put-counts
     : (s : List ℕ) (at : ℕ) (g : Generated) (c : HitResults) (tried : ℕ) (out : List ℕ) → g ≡ Counts c tried
-    → out ≡ put s at (answerBytes (worked (c .n320 ∷ c .n300 ∷ c .n200 ∷ c .n100 ∷ c .n50 ∷ c .misses ∷ tried ∷ []))) → out ≡ put s at (answerBytes (generatedOf g))
+    → out ≡ put s at (fieldBytes 0 (c .n320 ∷ c .n300 ∷ c .n200 ∷ c .n100 ∷ c .n50 ∷ c .misses ∷ tried ∷ [])) → out ≡ put s at (answerBytes (generatedOf g))
+unfolding answerBytes
 put-counts s at g c tried out e p = p ∙ ap (λ (x : Generated). put s at (answerBytes (generatedOf x))) (sym e)
 
 -- a refused answer has seven zeros
 pub put-refused
     : (s : List ℕ) (at : ℕ) (g : Generated) (n : ℕ) (out : List ℕ) → g ≡ Refused n
-    → out ≡ put s at (answerBytes (record { status = n; values = 0 ∷ 0 ∷ 0 ∷ 0 ∷ 0 ∷ 0 ∷ 0 ∷ [] })) → out ≡ put s at (answerBytes (generatedOf g))
-unfolding answerBytes
+    → out ≡ put s at (fieldBytes n (0 ∷ 0 ∷ 0 ∷ 0 ∷ 0 ∷ 0 ∷ 0 ∷ [])) → out ≡ put s at (answerBytes (generatedOf g))
+unfolding answerBytes fieldBytes
 put-refused s at g n out e p = p ∙ ap (λ (x : Generated). put s at (answerBytes (generatedOf x))) (sym e)
 
 pub length-answer : (a : Answer (List ℕ)) → length (answerBytes a) ≡ 32
-unfolding answerBytes bytes4
+unfolding answerBytes fieldBytes bytes4
 length-answer a = refl
 
 -- ---- the eight numbers of an answer's 32 bytes
 pub status-back : (a : Answer (List ℕ)) → statusOf a < 4294967296 → u32At (answerBytes a) 0 ≡ statusOf a
-unfolding answerBytes bytes4
+unfolding answerBytes fieldBytes bytes4
 status-back a h = bytes4-back (statusOf a) h
 
 value-at : (a : Answer (List ℕ)) (k : ℕ) → k < 7 → u32At (answerBytes a) (4 + 4 * k) ≡ u32At (bytes4 (value a k)) 0
-unfolding answerBytes bytes4
+unfolding answerBytes fieldBytes bytes4
 value-at a zero h = refl
 value-at a (suc zero) h = refl
 value-at a (suc (suc zero)) h = refl

@@ -10,6 +10,10 @@ use Rattle.score_state.specs.Answer.{Answer, statusOf, valuesOf}
 abbrev pub value : Answer (List ℕ) → ℕ → ℕ
 value a k = getD (valuesOf a) k 0
 
+-- a status and seven values, side by side
+unfoldable pub fieldBytes : ℕ → List ℕ → List ℕ
+fieldBytes status vs =
+    bytes4 status ++ bytes4 (getD vs 0 0) ++ bytes4 (getD vs 1 0) ++ bytes4 (getD vs 2 0) ++ bytes4 (getD vs 3 0) ++ bytes4 (getD vs 4 0) ++ bytes4 (getD vs 5 0) ++ bytes4 (getD vs 6 0)
+
 unfoldable pub answerBytes : Answer (List ℕ) → List ℕ
-answerBytes a =
-    bytes4 (statusOf a) ++ bytes4 (value a 0) ++ bytes4 (value a 1) ++ bytes4 (value a 2) ++ bytes4 (value a 3) ++ bytes4 (value a 4) ++ bytes4 (value a 5) ++ bytes4 (value a 6)
+answerBytes a = fieldBytes (statusOf a) (valuesOf a)

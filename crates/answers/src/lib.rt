@@ -5,14 +5,14 @@ ghost use Prim.Native.Nat.{_+_, _≤_};
 ghost use lib.ListN.{length};
 ghost use Rattle.little_endian.specs.Bytes.{put};
 ghost use Rattle.generate.specs.Generated.{generatedOf};
-ghost use Rattle.answers.specs.Answers.{answerBytes};
+ghost use Rattle.answers.specs.Answers.{fieldBytes, answerBytes};
 use generate::Generated;
 use score_state::HitResults;
 
 // The eight fields of an answer, side by side.
 fn put_fields(out: &mut [u8], at: usize, status: u32, c: HitResults, tried: u32)
     requires { ⌜ at + 32 ≤ length (now out) ⌝ }
-    ensures { λ _. ⌜ now (out .exit) ≡ put (now (out .entry)) at (answerBytes (record { status = status; values = c .n320 ∷ c .n300 ∷ c .n200 ∷ c .n100 ∷ c .n50 ∷ c .misses ∷ tried ∷ [] })) ⌝ }
+    ensures { λ _. ⌜ now (out .exit) ≡ put (now (out .entry)) at (fieldBytes status (c .n320 ∷ c .n300 ∷ c .n200 ∷ c .n100 ∷ c .n50 ∷ c .misses ∷ tried ∷ [])) ⌝ }
 {
     little_endian::put_u32(out, at, status);
     little_endian::put_u32(out, at + 4, c.n320);

@@ -1,6 +1,6 @@
 -- `handed` from its parts: an output too short, a refusal, and values stored one after the other. Assumes nothing.
 use mathlib.Core.Path.{_≡_, sym, ap, _∙_}
-use mathlib.Core.Bool.{Bool, cond}
+use mathlib.Core.Bool.{Bool}
 use mathlib.Core.List.{List, [], _∷_, _++_}
 use Prim.Native.Nat.{ℕ, _+_, _≤_, _<_}
 use native.Mathlib.Nat.{zero-add}
@@ -9,8 +9,14 @@ use borrow.Author.Tests.{lt-ltb, le-ltb, ne-eqb}
 use lib.Dec.{ltb, eqb}
 use lib.ListN.{length, drop, take}
 use lib.Seq.{sets, sets-eq}
-use Rattle.score_state.specs.Answer.{Answer, refused, worked, statusOf, valuesOf}
-use Rattle.direct.specs.Direct.{lent, either, handed, answerIn}
+use Rattle.score_state.specs.Answer.{Answer, refused, worked, unless, statusOf, valuesOf}
+use Rattle.inspect.specs.declared.Query.{Query}
+use Rattle.generate_laws.specs.Generate.{generateAnswer}
+use Rattle.generate_laws.proofs.Refusals.{numbered}
+use Rattle.generate.specs.Generated.{generatedOf}
+use Rattle.generate.specs.declared.Generated.{Generated}
+use Rattle.generate.specs.declared.Generated.the-variants.{Counts, Refused}
+use Rattle.direct.specs.Direct.{Numbered, lent, either, handed, answerIn}
 
 pub handed-short : (n : ℕ) (a : Answer (List ℕ)) (out : List ℕ) → length out < n → lent 5 out ≡ handed n a out
 unfolding handed
@@ -32,7 +38,12 @@ handed-worked n vs a out h k e =
 
 -- the answer that stands in the output
 pub told-refused : (n : ℕ) (vs : List ℕ) → 0 < n → answerIn n vs ≡ refused n
-told-refused n vs h = ap (λ (b : Bool). record { status = n; values = cond b vs [] }) (ne-eqb n 0 (λ (z : n ≡ 0). omega arith))
+told-refused n vs h = ap (λ (b : Bool). unless b n (worked vs)) (ne-eqb n 0 (λ (z : n ≡ 0). omega arith))
 
 pub told-worked : (a b c d e f g : ℕ) (out : List ℕ) → 7 ≤ length out → answerIn 0 (take 7 (sets out 0 (a ∷ b ∷ c ∷ d ∷ e ∷ f ∷ g ∷ []))) ≡ worked (a ∷ b ∷ c ∷ d ∷ e ∷ f ∷ g ∷ [])
 told-worked a b c d e f g out h = ap (λ (xs : List ℕ). answerIn 0 (take 7 xs)) (sets-eq (a ∷ b ∷ c ∷ d ∷ e ∷ f ∷ g ∷ []) out 0 h)
+
+-- what the direct call answers has no refusal by 0
+pub answer-numbered : (q : Query) (g : Generated) → generatedOf g ≡ generateAnswer q → Numbered g
+answer-numbered q (Counts c tried) e = tt
+answer-numbered q (Refused n) e = numbered q n e

@@ -1,8 +1,8 @@
 -- Document 01, Where a row or sheet stops: "A direct call, which takes method and priority as numbers, refuses by 7, 8, 10 to 14 with
 -- no counts." An output without room for the values is refused by 5, before anything else, and left unchanged.
-use Prim.Native.Nat.{ℕ}
-use mathlib.Core.Bool.{Bool, true, false, cond}
-use mathlib.Core.List.{List, [], _++_}
+use Prim.Native.Nat.{ℕ, _<_}
+use mathlib.Core.Bool.{Bool, true, false}
+use mathlib.Core.List.{List, _++_}
 use lib.Dec.{ltb, eqb}
 use lib.ListN.{length, drop}
 use lib.Ieee.{Float}
@@ -12,6 +12,8 @@ use Rattle.inspect.specs.Presence.{has}
 use Rattle.inspect.specs.declared.Accuracy.{Accuracy}
 use Rattle.inspect.specs.declared.Accuracy.the-variants.{Given, Absent}
 use Rattle.inspect.specs.declared.Query.{Query}
+use Rattle.generate.specs.declared.Generated.{Generated}
+use Rattle.generate.specs.declared.Generated.the-variants.{Counts, Refused}
 
 abbrev pub sixCounts : ℕ → ℕ → ℕ → ℕ → ℕ → ℕ → HitResults
 sixCounts n320 n300 n200 n100 n50 misses = record { n320 = n320; n300 = n300; n200 = n200; n100 = n100; n50 = n50; misses = misses }
@@ -35,6 +37,11 @@ handed n a out = either (ltb (length out) n) (lent 5 out) (lent (statusOf a) (va
 -- the answer that a call's result and its values tell
 abbrev pub answerIn : ℕ → List ℕ → Answer (List ℕ)
 answerIn status values = unless (eqb status 0) status (worked values)
+
+-- what `hand` asks of an answer: no refusal has the number 0 (`numbered` in generate_laws shows it of the direct call)
+abbrev pub Numbered : Generated → Type 0
+Numbered (Counts c tried) = Unit {0}
+Numbered (Refused n) = 0 < n
 
 -- an accuracy that its bit of presence says is given
 abbrev pub accBy : Bool → Float → Accuracy

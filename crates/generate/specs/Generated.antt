@@ -1,7 +1,7 @@
 -- Document 01, Language forms: "For every answer that is an enum, a definition gives this paper's number and values for each case of
 -- the enum." A refused direct call has no counts; the values of another are n320, n300, n200, n100, n50, misses, tried.
-use Prim.Native.Nat.{_<_}
-use mathlib.Core.List.{[], _∷_}
+use Prim.Native.Nat.{ℕ}
+use mathlib.Core.List.{List, [], _∷_}
 use Rattle.score_state.specs.Answer.{Answer, refused, worked}
 use Rattle.generate.specs.declared.Generated.{Generated}
 use Rattle.generate.specs.declared.Generated.the-variants.{Counts, Refused}
@@ -9,8 +9,3 @@ use Rattle.generate.specs.declared.Generated.the-variants.{Counts, Refus
 abbrev pub generatedOf : Generated → Answer (List ℕ)
 generatedOf (Counts c tried) = worked (c .n320 ∷ c .n300 ∷ c .n200 ∷ c .n100 ∷ c .n50 ∷ c .misses ∷ tried ∷ [])
 generatedOf (Refused n) = refused n
-
--- a refusal has a number, which is not 0
-abbrev pub Numbered : Generated → Type 0
-Numbered (Counts c tried) = Unit {0}
-Numbered (Refused n) = 0 < n

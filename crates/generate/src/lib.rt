@@ -10,7 +10,7 @@ ghost use Rattle.inspect.specs.Inspect.{inspectOf, accOf};
 ghost use Rattle.inspect.specs.Checks.{Domain};
 ghost use Rattle.generate_laws.specs.Generate.{untried, nearestOf, byMethod, answerBy, generateAnswer};
 ghost use Rattle.closest_laws.specs.Closest.{closestAt};
-ghost use Rattle.generate.specs.Generated.{generatedOf, Numbered};
+ghost use Rattle.generate.specs.Generated.{generatedOf};
 ghost use Rattle.generate.specs.Code.{ignoresAcc};
 use closest::Closest;
 use inspect::Accuracy;
@@ -29,7 +29,6 @@ fn closest_counts(q: Query, acc: f64) -> Generated
     requires { ⌜ Domain q ⌝ }
     requires { ⌜ T (Ieee.le zero64 acc) ⌝ ∗ ⌜ T (Ieee.le acc one64) ⌝ }
     ensures { λ r. ⌜ generatedOf r ≡ untried (closestAt (inspectOf q) acc) ⌝ }
-    ensures { λ r. ⌜ Numbered r ⌝ }
 {
     match closest::closest_at(q, acc) {
         Closest::Counts(counts) => Generated::Counts(counts, 0),
@@ -42,7 +41,6 @@ fn nearest_counts(q: Query, acc: f64) -> Generated
     requires { ⌜ Domain q ⌝ }
     requires { ⌜ T (Ieee.le zero64 acc) ⌝ ∗ ⌜ T (Ieee.le acc one64) ⌝ }
     ensures { λ r. ⌜ generatedOf r ≡ nearestOf (inspectOf q) (some acc) ⌝ }
-    ensures { λ r. ⌜ Numbered r ⌝ }
 {
     let total = inspect::total_hits(q);
     let missed = inspect::misses(q);
@@ -74,7 +72,6 @@ fn at_acc(q: Query, method: u8, acc: f64) -> Generated
     requires { ⌜ T (Ieee.le zero64 acc) ⌝ ∗ ⌜ T (Ieee.le acc one64) ⌝ }
     requires { ⌜ (0 < method) × ((inspectOf q) .acc ≡ some acc) ⌝ }
     ensures { λ r. ⌜ generatedOf r ≡ byMethod method (inspectOf q) ⌝ }
-    ensures { λ r. ⌜ Numbered r ⌝ }
 {
     match method {
         1 => Generated::Counts(fast::generate_hitresults(q, acc), 0),
@@ -97,7 +94,6 @@ fn ignores_acc(method: u8, acc: Accuracy) -> bool
 // compiler builds them into one function, in which the query is never copied.
 fn by_method(q: Query, method: u8) -> Generated
     ensures { λ r. ⌜ generatedOf r ≡ answerBy method q ⌝ }
-    ensures { λ r. ⌜ Numbered r ⌝ }
 {
     let stop = inspect::stop_of(q);
     if stop > 0 {
@@ -144,7 +140,6 @@ pub fn by_nearest(q: Query) -> Generated
 // The direct call: the query's method is 0 IgnoreAccuracy, 1 Fast, 2 Closest or 3 Nearest.
 pub fn generate(q: Query) -> Generated
     ensures { λ r. ⌜ generatedOf r ≡ generateAnswer q ⌝ }
-    ensures { λ r. ⌜ Numbered r ⌝ }
 {
     by_method(q, q.method)
 }

@@ -3,3 +3,4 @@ pub mod Plays
 pub mod EquallyFar
 pub mod Method3
 pub mod Answered
+pub mod Refusals

@@ -120,7 +120,7 @@ stop-small q = go (chartOver (q .chart)) (unknownCode (q .method) (q .priority))
     go false false false false = omega arith
 
 -- Closest's answer with an accuracy: six counts, or 12
-abbrev SixOr12 : Answer (List ℕ) → Type 0
+abbrev pub SixOr12 : Answer (List ℕ) → Type 0
 SixOr12 a = (statusOf a ≤ 12) × (statusOf a ≡ 0 → length (valuesOf a) ≡ 6)
 
 six-counts : (r : HitResults) → SixOr12 (worked (six r))
@@ -133,7 +133,7 @@ either-12 : (b : Bool) (r : HitResults) → SixOr12 (cond b (refused 12) (worked
 either-12 true r = refused-12
 either-12 false r = six-counts r
 
-closest-six : (i : Inspect) (acc : Float) → SixOr12 (closestAt i acc)
+pub closest-six : (i : Inspect) (acc : Float) → SixOr12 (closestAt i acc)
 unfolding closestAt
 closest-six i acc = go (eqb (remain i) 0) (length (missing (weights (playOf i acc)) (provided (playOf i acc))))
   where
@@ -259,7 +259,7 @@ untried-five : (a : Answer (List ℕ)) → SixOr12 a → statusOf (untried a) �
 untried-five (worked xs) h e =
     let l : length xs ≡ 6 = h .1 e in
     (take-append-le 5 xs (0 ∷ []) (omega arith), simp length-append (omega arith))
-untried-five (refused n) h e = let l : 0 ≡ 6 = h .1 e in absurd (omega arith)
+untried-five (refused n) h e = let l : _≡_ {A = ℕ} 0 6 = h .1 e in absurd (omega arith)
 
 pub record EquallyFar (i : Inspect) (a b : Answer (List ℕ)) : Type 0 where
   pub acc : Float

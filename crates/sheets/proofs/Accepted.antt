@@ -9,6 +9,7 @@ use lib.Dec.{ltb}
 use lib.ListN.{length}
 use borrow.Author.Tests.{eq-eqb, ne-eqb, ltb-false}
 use Rattle.little_endian.specs.Bytes.{u32At}
+use Rattle.score_state.specs.Answer.{worked}
 use Rattle.inspect.specs.declared.Chart.{Chart}
 use Rattle.charts.specs.Charts.{chartsAt}
 use Rattle.sheets.specs.Sheets.{chartCount, queriesAt, queryCount, rowsAt, sheetEnd, sheetStop, chartsOf, rowsWritten, stopped, sheetOf}
@@ -72,13 +73,13 @@ module _ (s out : List ℕ) where
   unfolding sheetOf
   sheet-stopped n e h = rw (← e, ne-eqb n 0 (λ (z : n ≡ 0). omega arith))
 
-  pub sheet-worked : sheetStop s (length out) ≡ 0 → record { status = 0; queries = queryCount s; bytes = rowsWritten s (chartsOf s) (rowsAt s) (queryCount s) out } ≡ sheetOf s out
+  pub sheet-worked : sheetStop s (length out) ≡ 0 → record { answer = worked (queryCount s); bytes = rowsWritten s (chartsOf s) (rowsAt s) (queryCount s) out } ≡ sheetOf s out
   unfolding sheetOf
   sheet-worked e = rw (eq-eqb (sheetStop s (length out)) 0 e)
 
   -- a: the count of charts; b: of queries; cs: the charts; o: what the rows leave
   pub sheet-from
       : (a b : ℕ) (cs : List Chart) (o : List ℕ) → sheetStop s (length out) ≡ 0 → a ≡ u32At s 0 → b ≡ u32At s (4 + 8 * a) → cs ≡ chartsAt s 4 a
-      → o ≡ rowsWritten s cs (4 + 8 * a + 4) b out → record { status = 0; queries = b; bytes = o } ≡ sheetOf s out
+      → o ≡ rowsWritten s cs (4 + 8 * a + 4) b out → record { answer = worked b; bytes = o } ≡ sheetOf s out
   unfolding chartsOf
   sheet-from a b cs o e ea eb ec eo = rw (eo, ec, eb, ea) (sheet-worked e)

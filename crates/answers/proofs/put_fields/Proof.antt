@@ -9,7 +9,7 @@ use Rattle.little_endian.proofs.Put.{next}
 use Rattle.little_endian.specs.Bytes.{bytes4, put}
 use Rattle.answers.proofs.put_fields.Statement.{statement}
 use Rattle.answers.proofs.put_fields.Tie as tie
-use Rattle.answers.specs.Answers.{answerBytes}
+use Rattle.answers.specs.Answers.{fieldBytes}
 
 put-u32-requires : tie.Need-put-u32-requires
 put-u32-requires c κs = search needs
@@ -60,7 +60,7 @@ same-length : tie.Need-same-length
 same-length c = search needs
 
 returns : tie.Need-returns
-unfolding answerBytes bytes4
+unfolding fieldBytes bytes4
 returns c =
     let x = c .before .before .before .before .before .before .before .before .before .before .before .before .before .before .before .before .before .before .before .before .before .before .before .before .before .before .before .before .before .before .before .before .before .args in
     let s = x .out .now in

@@ -1,5 +1,7 @@
 -- `direct::generate` meets its contract. Assumes nothing.
-use Prim.Native.Nat.{_≤_}
+use Prim.Native.Nat.{ℕ, _≤_}
+use mathlib.Core.List.{List}
+use native.Mathlib.Omega.{arith}
 use native.Mathlib.Nat.{not-le-of-lt}
 use mathlib.Core.Path.{_≡_, ap, _∙_}
 use lib.ListN.{length}
@@ -7,7 +9,7 @@ use Rattle.generate.specs.Generated.{generatedOf}
 use Rattle.score_state.specs.Answer.{Answer}
 use Rattle.generate_laws.specs.Generate.{generateAnswer}
 use Rattle.direct.specs.Direct.{sixCounts, queryBy, handed}
-use Rattle.direct.proofs.Handed.{handed-short}
+use Rattle.direct.proofs.Handed.{handed-short, answer-numbered}
 use borrow.Author.Needs.{needs}
 use Rattle.direct.proofs.generate.Statement.{statement}
 use Rattle.direct.proofs.generate.Tie as tie
@@ -25,7 +27,7 @@ generate-requires : tie.Need-generate-requires
 generate-requires c κs = search needs
 
 hand-requires : tie.Need-hand-requires
-hand-requires c κs = search needs
+hand-requires c κs = (answer-numbered _ (c .before .generate .result) (c .before .generate .ensures), omega arith)
 
 same-length : tie.Need-same-length
 same-length c = search needs
@@ -36,8 +38,8 @@ returns-2 c =
     let x = c .before .before .before .before .before .before .before .before .args in
     let q = queryBy (x .objects) (x .holds) (x .method) (x .priority) (x .classic) (x .presence) (sixCounts (x .n320) (x .n300) (x .n200) (x .n100) (x .n50) (x .misses)) (x .passed) (x .acc) in
     let e : generatedOf (c .before .before .before .before .generate .result) ≡ generateAnswer q =
-    c .before .before .before .before .generate .ensures .0 ∙ rw (c .before .before .before .before .before .acc-of .ensures) in
-    (c .before .before .hand .ensures .0 ∙ ap (λ (a : Answer). handed 7 a (x .out .now)) e, λ (h : 7 ≤ length (x .out .now)). c .before .before .hand .ensures .1 ∙ e)
+    c .before .before .before .before .generate .ensures ∙ rw (c .before .before .before .before .before .acc-of .ensures) in
+    (c .before .before .hand .ensures .0 ∙ ap (λ (a : Answer (List ℕ)). handed 7 a (x .out .now)) e, λ (h : 7 ≤ length (x .out .now)). c .before .before .hand .ensures .1 ∙ e)
 
 pub generate-spec : {M : Type 1} → statement M
 generate-spec =

@@ -3,7 +3,8 @@ use mathlib.Core.Path.{sym, ap, subst, _∙_}
 use mathlib.Core.List.{[], _∷_}
 use native.Mathlib.Omega.{arith}
 use lib.ListN.{take, length-set}
-use Rattle.generate.specs.Generated.{generatedOf, Numbered}
+use Rattle.generate.specs.Generated.{generatedOf}
+use Rattle.direct.specs.Direct.{Numbered}
 use Rattle.direct.proofs.Handed.{handed-refused, handed-worked, told-refused, told-worked}
 use borrow.Author.Needs.{needs}
 use Rattle.direct.proofs.hand.Statement.{statement}

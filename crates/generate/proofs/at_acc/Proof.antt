@@ -23,18 +23,18 @@ returns : tie.Need-returns
 returns c =
     let x = c .before .before .args in
     let e = fast-at (inspectOf (x .q)) (x .acc) (c .generate-hitresults .result) (c .before .before .pre .1 .1 .1 .1) (c .generate-hitresults .ensures) in
-    (e ∙ ap (λ (m : ℕ). byMethod m (inspectOf (x .q))) (sym (c .before .match .keys1)), tt)
+    e ∙ ap (λ (m : ℕ). byMethod m (inspectOf (x .q))) (sym (c .before .match .keys1))
 
 returns-2 : tie.Need-returns-2
 returns-2 c =
     let x = c .before .before .args in
-    let e = closest-at (inspectOf (x .q)) (x .acc) (generatedOf (c .closest-counts .result)) (c .before .before .pre .1 .1 .1 .1) (c .closest-counts .ensures .0) in
-    (e ∙ ap (λ (m : ℕ). byMethod m (inspectOf (x .q))) (sym (c .before .match .keys2)), c .closest-counts .ensures .1)
+    let e = closest-at (inspectOf (x .q)) (x .acc) (generatedOf (c .closest-counts .result)) (c .before .before .pre .1 .1 .1 .1) (c .closest-counts .ensures) in
+    e ∙ ap (λ (m : ℕ). byMethod m (inspectOf (x .q))) (sym (c .before .match .keys2))
 
 returns-3 : tie.Need-returns-3
 returns-3 c =
     let x = c .before .before .args in
-    (nearest-at (x .method) (inspectOf (x .q)) (x .acc) (generatedOf (c .nearest-counts .result)) (omega arith) (c .before .before .pre .1 .1 .1 .1) (c .nearest-counts .ensures .0), c .nearest-counts .ensures .1)
+    nearest-at (x .method) (inspectOf (x .q)) (x .acc) (generatedOf (c .nearest-counts .result)) (omega arith) (c .before .before .pre .1 .1 .1 .1) (c .nearest-counts .ensures)
 
 pub at-acc-spec : {M : Type 1} → statement M
 at-acc-spec =

@@ -1,6 +1,5 @@
 -- `generate::by_method` meets its contract. Assumes nothing.
 use mathlib.Core.Path.{sym, ap, _∙_}
-use lib.Dec.{lit<}
 use Rattle.score_state.specs.Answer.{refused}
 use Rattle.inspect.specs.Inspect.{inspectOf, accOf}
 use Rattle.inspect.specs.declared.Accuracy.{Accuracy}
@@ -18,7 +17,7 @@ stop-of-requires : tie.Need-stop-of-requires
 stop-of-requires c κs = search needs
 
 returns : tie.Need-returns
-returns c = (halted (c .before .before .args .method) (c .before .before .args .q) (c .before .stop-of .result) (c .before .stop-of .ensures) (c .if1 .taken), c .if1 .taken)
+returns c = halted (c .before .before .args .method) (c .before .before .args .q) (c .before .stop-of .result) (c .before .stop-of .ensures) (c .if1 .taken)
 
 ignores-acc-requires : tie.Need-ignores-acc-requires
 ignores-acc-requires c κs = search needs
@@ -29,9 +28,8 @@ generate-hitresults-requires c κs = in-domain (c .before .before .before .befor
 returns-2 : tie.Need-returns-2
 returns-2 c =
     let x = c .before .before .before .before .before .args in
-    let e = worked-by (x .method) (x .q) (c .before .before .before .before .stop-of .result) (counted (c .generate-hitresults .result)) (c .before .before .before .before .stop-of .ensures) (c .before .before .before .if1 .left)
-    (ap counted (c .generate-hitresults .ensures .0) ∙ by-ignore-acc (x .method) (inspectOf (x .q)) (sym (c .before .before .ignores-acc .ensures) ∙ c .before .if2 .taken)) in
-    (e, tt)
+    worked-by (x .method) (x .q) (c .before .before .before .before .stop-of .result) (counted (c .generate-hitresults .result)) (c .before .before .before .before .stop-of .ensures) (c .before .before .before .if1 .left)
+    (ap counted (c .generate-hitresults .ensures .0) ∙ by-ignore-acc (x .method) (inspectOf (x .q)) (sym (c .before .before .ignores-acc .ensures) ∙ c .before .if2 .taken))
 
 enum-known-a : tie.Need-enum-known-a
 enum-known-a c = search needs
@@ -49,17 +47,14 @@ enum-told : tie.Need-enum-told
 enum-told c = search needs
 
 returns-3 : tie.Need-returns-3
-returns-3 c =
-    let e = worked-by (c .before .before .before .before .before .before .before .before .args .method) (c .before .before .before .before .before .before .before .before .args .q) (c .before .before .before .before .before .before .before .stop-of .result) (generatedOf (c .at-acc .result)) (c .before .before .before .before .before .before .before .stop-of .ensures) (c .before .before .before .before .before .before .if1 .left) (c .at-acc .ensures .0) in
-    (e, c .at-acc .ensures .1)
+returns-3 c = worked-by (c .before .before .before .before .before .before .before .before .args .method) (c .before .before .before .before .before .before .before .before .args .q) (c .before .before .before .before .before .before .before .stop-of .result) (generatedOf (c .at-acc .result)) (c .before .before .before .before .before .before .before .stop-of .ensures) (c .before .before .before .before .before .before .if1 .left) (c .at-acc .ensures)
 
 returns-4 : tie.Need-returns-4
 returns-4 c =
     let x = c .before .before .before .before .before .before .args in
     let e = c .enum-told .given .1 in
-    let w = worked-by (x .method) (x .q) (c .before .before .before .before .before .stop-of .result) (refused 13) (c .before .before .before .before .before .stop-of .ensures) (c .before .before .before .before .if1 .left)
-    (without-acc (x .method) (inspectOf (x .q)) (ap accOf e) (sym (ap (λ (y : Accuracy). ignoresAcc (x .method) (accOf y)) e) ∙ sym (c .before .before .before .ignores-acc .ensures) ∙ c .before .before .if2 .left)) in
-    (w, lit< tt)
+    worked-by (x .method) (x .q) (c .before .before .before .before .before .stop-of .result) (refused 13) (c .before .before .before .before .before .stop-of .ensures) (c .before .before .before .before .if1 .left)
+    (without-acc (x .method) (inspectOf (x .q)) (ap accOf e) (sym (ap (λ (y : Accuracy). ignoresAcc (x .method) (accOf y)) e) ∙ sym (c .before .before .before .ignores-acc .ensures) ∙ c .before .before .if2 .left))
 
 pub by-method-spec : {M : Type 1} → statement M
 by-method-spec =

@@ -7,10 +7,9 @@ use mathlib.Core.Path.{sym, ap, subst, _∙_}
 use Prim.Native.Nat.{ℕ}
 use native.Mathlib.Nat.{mul-le-mul}
 use native.Mathlib.Omega.{arith}
-use lib.Dec.{lit<}
 use Rattle.score_state.specs.Points.{weightsOf}
 use Rattle.inspect.specs.Inspect.{inspectOf}
-use Rattle.nearest_laws.specs.Nearest.{Weighting, standard-weighting}
+use Rattle.nearest_laws.specs.Nearest.{Weighting, standard-weighting, nearestAnswer}
 use Rattle.nearest.specs.Presence as Nearest
 use Rattle.generate_laws.proofs.Answered.{nearest-found, nearest-none}
 use borrow.Author.Needs.{needs}
@@ -58,24 +57,24 @@ enum-told : tie.Need-enum-told
 enum-told c = search needs
 
 returns : tie.Need-returns
+unfolding nearestAnswer
 returns c =
-    let e = nearest-found (inspectOf (c .before .before .before .before .before .before .before .before .before .before .before .args .q)) (c .before .before .before .before .before .before .before .before .before .before .before .args .acc) (weightsOf (c .before .before .before .before .before .standard-weights .result)) (c .before .before .before .before .before .before .target-of .result .0) (c .before .before .before .before .before .before .before .before .remain .result .0) (c .before .before .before .before .before .before .before .before .before .misses .result .0)
+    nearest-found (inspectOf (c .before .before .before .before .before .before .before .before .before .before .before .args .q)) (c .before .before .before .before .before .before .before .before .before .before .before .args .acc) (weightsOf (c .before .before .before .before .before .standard-weights .result)) (c .before .before .before .before .before .before .target-of .result .0) (c .before .before .before .before .before .before .before .before .remain .result .0) (c .before .before .before .before .before .before .before .before .before .misses .result .0)
     (c .before .before .before .before .before .standard-weights .ensures .0)
     (c .before .before .before .before .before .before .target-of .ensures .0 ∙ ap (λ (w : ℕ). target (c .before .before .before .before .before .before .before .before .before .before .before .args .acc) w (c .before .before .before .before .before .before .before .before .before .before .total-hits .result .0)) (c .before .before .before .before .before .before .before .perfect-weight .ensures .0)
     ∙ ap (λ (t : ℕ). target (c .before .before .before .before .before .before .before .before .before .before .before .args .acc) (perfectWeight (c .before .before .before .before .before .before .before .before .before .before .before .args .q .classic)) t) (c .before .before .before .before .before .before .before .before .before .before .total-hits .ensures .0))
     (c .before .before .before .before .before .before .before .before .remain .ensures .0) (c .before .before .before .before .before .before .before .before .before .misses .ensures .0)
-    (Nearest.answerOf (c .before .before .before .before .nearest .result)) (Nearest.foundOf (c .before .before .split .given .0 .0)) (c .before .before .before .before .nearest .ensures) (ap (λ (o : Outcome). Nearest.answerOf o .found) (c .before .before .split .given .1)) in
-    (e, tt)
+    (Nearest.foundOf (c .before .before .split .given .0 .0)) (sym (ap (λ (o : Outcome). Nearest.answerOf o .found) (c .before .before .split .given .1)) ∙ ap (λ (a : Laws.Answer). a .found) (c .before .before .before .before .nearest .ensures))
 
 returns-2 : tie.Need-returns-2
+unfolding nearestAnswer
 returns-2 c =
-    let e = nearest-none (inspectOf (c .before .before .before .before .before .before .before .before .before .args .q)) (c .before .before .before .before .before .before .before .before .before .args .acc) (weightsOf (c .before .before .before .standard-weights .result)) (c .before .before .before .before .target-of .result .0) (c .before .before .before .before .before .before .remain .result .0) (c .before .before .before .before .before .before .before .misses .result .0)
+    nearest-none (inspectOf (c .before .before .before .before .before .before .before .before .before .args .q)) (c .before .before .before .before .before .before .before .before .before .args .acc) (weightsOf (c .before .before .before .standard-weights .result)) (c .before .before .before .before .target-of .result .0) (c .before .before .before .before .before .before .remain .result .0) (c .before .before .before .before .before .before .before .misses .result .0)
     (c .before .before .before .standard-weights .ensures .0)
     (c .before .before .before .before .target-of .ensures .0 ∙ ap (λ (w : ℕ). target (c .before .before .before .before .before .before .before .before .before .args .acc) w (c .before .before .before .before .before .before .before .before .total-hits .result .0)) (c .before .before .before .before .before .perfect-weight .ensures .0)
     ∙ ap (λ (t : ℕ). target (c .before .before .before .before .before .before .before .before .before .args .acc) (perfectWeight (c .before .before .before .before .before .before .before .before .before .args .q .classic)) t) (c .before .before .before .before .before .before .before .before .total-hits .ensures .0))
     (c .before .before .before .before .before .before .remain .ensures .0) (c .before .before .before .before .before .before .before .misses .ensures .0)
-    (Nearest.answerOf (c .before .before .nearest .result)) (c .before .before .nearest .ensures) (ap (λ (o : Outcome). Nearest.answerOf o .found) (c .enum-told .given .1)) in
-    (e, lit< tt)
+    (sym (ap (λ (o : Outcome). Nearest.answerOf o .found) (c .enum-told .given .1)) ∙ ap (λ (a : Laws.Answer). a .found) (c .before .before .nearest .ensures))
 
 pub nearest-counts-spec : {M : Type 1} → statement M
 nearest-counts-spec =

@@ -1,10 +1,10 @@
--- `capi::nuqsillay_accuracy` meets its contract. Assumes nothing.
+-- `nuqsillay::nuqsillay_accuracy` meets its contract. Assumes nothing.
 use Rattle.score_state.specs.Accuracy.{accuracyAnswer}
 use Rattle.direct.specs.Direct.{sixCounts}
-use Rattle.capi.proofs.Handed.{accuracy-is, accuracy-refused}
+use Rattle.nuqsillay.proofs.Handed.{accuracy-is, accuracy-refused}
 use borrow.Author.Needs.{needs}
-use Rattle.capi.proofs.nuqsillay_accuracy.Statement.{statement}
-use Rattle.capi.proofs.nuqsillay_accuracy.Tie as tie
+use Rattle.nuqsillay.proofs.nuqsillay_accuracy.Statement.{statement}
+use Rattle.nuqsillay.proofs.nuqsillay_accuracy.Tie as tie
 
 accuracy-requires : tie.Need-accuracy-requires
 accuracy-requires c κs = search needs

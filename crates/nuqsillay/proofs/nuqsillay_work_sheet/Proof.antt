@@ -1,8 +1,8 @@
--- `capi::nuqsillay_work_sheet` meets its contract. Assumes nothing.
-use Rattle.capi.proofs.Handed.{sheet-worked, sheet-refused}
+-- `nuqsillay::nuqsillay_work_sheet` meets its contract. Assumes nothing.
+use Rattle.nuqsillay.proofs.Handed.{sheet-worked, sheet-refused}
 use borrow.Author.Needs.{needs}
-use Rattle.capi.proofs.nuqsillay_work_sheet.Statement.{statement}
-use Rattle.capi.proofs.nuqsillay_work_sheet.Tie as tie
+use Rattle.nuqsillay.proofs.nuqsillay_work_sheet.Statement.{statement}
+use Rattle.nuqsillay.proofs.nuqsillay_work_sheet.Tie as tie
 
 work-sheet-requires : tie.Need-work-sheet-requires
 work-sheet-requires c κs = search needs

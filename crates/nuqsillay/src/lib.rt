@@ -1,10 +1,11 @@
 // The calls that C and Rust programs link: numbers and slices only. Their header is include/nuqsillay.h.
 ghost use mathlib.Core.Path.{_≡_};
+ghost use Rattle.score_state.specs.Answer.{statusOf};
 ghost use Rattle.score_state.specs.Accuracy.{accuracyAnswer};
 ghost use Rattle.inspect.specs.Answers.{targetAnswer};
 ghost use Rattle.generate_laws.specs.Generate.{generateAnswer};
 ghost use Rattle.direct.specs.Direct.{sixCounts, lent, handed, queryBy};
-ghost use Rattle.capi.specs.Exports.{valueOr, targetQuery, sheetLent};
+ghost use Rattle.nuqsillay.specs.Exports.{valueOr, targetQuery, sheetLent};
 use inspect::Accuracy;
 use inspect::Chart;
 use inspect::Query;
@@ -25,8 +26,8 @@ pub extern "C" fn nuqsillay_accuracy(
     classic: bool,
     value: &mut f64,
 ) -> u32
-    ensures { λ r. ⌜ r ≡ accuracyAnswer (sixCounts n320 n300 n200 n100 n50 misses) classic .status ⌝ }
-    ensures { λ _. ⌜ now (value .exit) ≡ valueOr (accuracyAnswer (sixCounts n320 n300 n200 n100 n50 misses) classic .value) (now (value .entry)) ⌝ }
+    ensures { λ r. ⌜ r ≡ statusOf (accuracyAnswer (sixCounts n320 n300 n200 n100 n50 misses) classic) ⌝ }
+    ensures { λ _. ⌜ now (value .exit) ≡ valueOr (accuracyAnswer (sixCounts n320 n300 n200 n100 n50 misses) classic) (now (value .entry)) ⌝ }
 {
     let counts = HitResults {
         n320,

@@ -3,17 +3,17 @@
 use Prim.Native.Nat.{ℕ, _*_, _/_}
 use mathlib.Core.Bool.{Bool}
 use mathlib.Core.List.{List}
-use mathlib.Core.Option.{Option, none, some}
 use lib.Ieee.{Float}
+use Rattle.score_state.specs.Answer.{Answer, worked, refused, statusOf}
 use Rattle.inspect.specs.declared.Accuracy.the-variants.{Given}
 use Rattle.inspect.specs.declared.Query.{Query}
 use Rattle.sheets.specs.Sheets.{sheetOf}
 use Rattle.direct.specs.Direct.{Lent, lent}
 
 -- what stands behind a lent f64 at the end, and stood there before
-abbrev pub valueOr : Option Float → Float → Float
-valueOr none old = old
-valueOr (some x) old = x
+abbrev pub valueOr : Answer Float → Float → Float
+valueOr (worked x) old = x
+valueOr (refused n) old = old
 
 -- the query of `nuqsillay_target`: no count is given but misses and passed, by their own bits of presence
 abbrev pub targetQuery : ℕ → ℕ → Bool → ℕ → ℕ → ℕ → Float → Query
@@ -36,4 +36,4 @@ targetQuery objects holds classic presence misses passed acc =
 
 -- a sheet's status, and all bytes of its output
 abbrev pub sheetLent : List ℕ → List ℕ → Lent
-sheetLent s out = lent (sheetOf s out .status) (sheetOf s out .bytes)
+sheetLent s out = lent (statusOf (sheetOf s out .answer)) (sheetOf s out .bytes)

@@ -1,14 +1,14 @@
--- `capi::nuqsillay_target` meets its contract. Assumes nothing.
+-- `nuqsillay::nuqsillay_target` meets its contract. Assumes nothing.
 use mathlib.Core.Path.{sym, ap, _∙_}
 use mathlib.Core.List.{[], _∷_}
 use native.Mathlib.Omega.{arith}
 use lib.ListN.{length-set}
 use Rattle.inspect.specs.Answers.{answerOf, targetAnswer}
-use Rattle.capi.specs.Exports.{targetQuery}
+use Rattle.nuqsillay.specs.Exports.{targetQuery}
 use Rattle.direct.proofs.Handed.{handed-short, handed-refused, handed-worked}
 use borrow.Author.Needs.{needs}
-use Rattle.capi.proofs.nuqsillay_target.Statement.{statement}
-use Rattle.capi.proofs.nuqsillay_target.Tie as tie
+use Rattle.nuqsillay.proofs.nuqsillay_target.Statement.{statement}
+use Rattle.nuqsillay.proofs.nuqsillay_target.Tie as tie
 
 returns : tie.Need-returns
 returns c =
