@@ -5,7 +5,7 @@ ghost use lib.ListN.{length, getD, take};
 ghost use Rattle.charts.specs.Charts.{noChart, chartsAt};
 use inspect::Chart;
 
-// The n charts that start at a place of the sheet, and zeros after them.
+// The n charts that start at a place of the sheet, in front; what fills the rest of the array is left open.
 pub fn read_charts(sheet: &[u8], at: usize, n: usize) -> [Chart; 256]
     requires { ⌜ (at + 8 * n ≤ length (now sheet)) × (n ≤ 256) ⌝ }
     ensures { λ r. ⌜ (take n r ≡ chartsAt (now (sheet .entry)) at n) × (length r ≡ 256) ⌝ }
