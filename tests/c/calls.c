@@ -8,8 +8,6 @@
 
 #include "nuqsillay.h"
 
-enum { IGNORE_ACC, FAST, CLOSEST, NEAREST };
-enum { N320 = 1, N300 = 2, N200 = 4, N100 = 8, N50 = 16, MISSES = 32, ACC = 64, PASSED = 128 };
 enum { RECORD = 80, PLACES = 9 };
 
 /* What stands in an output before a call. */
@@ -57,7 +55,7 @@ static void check_outputs(uint32_t (*call)(const struct query *, uint32_t *, siz
         for (size_t i = 0; i <= PLACES; i++)
             out[i] = right[i] = BEFORE;
 
-        uint32_t expected = len < places ? 5 : status;
+        uint32_t expected = len < places ? NUQSILLAY_OUTPUT_SHORT : status;
         uint32_t answer = call(q, out, len);
         for (size_t i = 0; expected == 0 && i < places; i++)
             right[i] = values[i] == ANY ? out[i] : values[i];
@@ -140,34 +138,34 @@ struct play {
     uint32_t status, values[7];
 };
 
-#define LAST_THREE (N200 | N100 | N50)
-#define FIRST_THREE (N320 | N300 | N200)
+#define LAST_THREE (NUQSILLAY_HAS_N200 | NUQSILLAY_HAS_N100 | NUQSILLAY_HAS_N50)
+#define FIRST_THREE (NUQSILLAY_HAS_N320 | NUQSILLAY_HAS_N300 | NUQSILLAY_HAS_N200)
 
 static const struct play plays[] = {
-    {'A', CLOSEST, 0, false, 20, ACC | LAST_THREE, {0}, 0, 1208.0 / 1220, 0, {8, 12, 0, 0, 0, 0, 0}},
-    {'A', NEAREST, 0, false, 20, ACC | LAST_THREE, {0}, 0, 1208.0 / 1220, 0, {8, 12, 0, 0, 0, 0, 1}},
-    {'B', CLOSEST, 0, true, 5, ACC | LAST_THREE, {0}, 0, 1, 0, {2, 3, 0, 0, 0, 0, 0}},
-    {'B', NEAREST, 0, true, 5, ACC | LAST_THREE, {0}, 0, 1, 0, {5, 0, 0, 0, 0, 0, 1}},
-    {'C', CLOSEST, 0, false, 20, ACC, {0}, 0, 705.0 / 1220, 0, {9, 0, 0, 5, 6, 0, 0}},
-    {'C', NEAREST, 0, false, 20, ACC, {0}, 0, 705.0 / 1220, 0, {5, 0, 5, 10, 0, 0, ANY}},
-    {'D', CLOSEST, 0, false, 5, ACC | N200, {0, 0, 9, 0, 0}, 0, 1, 0, {0, 0, 9, 0, 5, 0, 0}},
-    {'D', NEAREST, 0, false, 5, ACC | N200, {0, 0, 9, 0, 0}, 0, 1, 14, {0}},
-    {'E', CLOSEST, 0, false, 20, ACC | N320 | N300, {0}, 0, 1, 0, {0, 0, 0, 0, 20, 0, 0}},
-    {'E', NEAREST, 0, false, 20, ACC | N320 | N300, {0}, 0, 1, 0, {0, 0, 20, 0, 0, 0, 3}},
-    {'F', FAST, 0, false, 10, ACC, {0}, 0, 0.5, 0, {4, 0, 0, 0, 6, 0, 0}},
-    {'G', IGNORE_ACC, 0, false, 10, MISSES | N100, {0, 0, 0, 3, 0}, 2, 0, 0, {5, 0, 0, 3, 0, 2, 0}},
-    {'G', IGNORE_ACC, 1, false, 10, MISSES | N100, {0, 0, 0, 3, 0}, 2, 0, 0, {0, 0, 0, 3, 5, 2, 0}},
-    {'H', FAST, 0, false, 4, ACC | MISSES, {0}, 9, 1, 0, {0, 0, 0, 0, 0, 4, 0}},
-    {'H', CLOSEST, 0, false, 4, ACC | MISSES, {0}, 9, 1, 0, {0, 0, 0, 0, 0, 4, 0}},
-    {'H', NEAREST, 0, false, 4, ACC | MISSES, {0}, 9, 1, 0, {0, 0, 0, 0, 0, 4, 1}},
-    {'I', CLOSEST, 0, false, 5, ACC | FIRST_THREE, {3, 3, 0, 0, 0}, 0, 1, 12, {0}},
-    {'I', CLOSEST, 0, false, 5, ACC | FIRST_THREE, {3, 2, 0, 0, 0}, 0, 1, 0, {3, 2, 0, 0, 0, 0, 0}},
-    {'J', IGNORE_ACC, 0, false, 100000, 0, {0}, 0, 0, 0, {100000, 0, 0, 0, 0, 0, 0}},
-    {'J', IGNORE_ACC, 0, false, 100001, 0, {0}, 0, 0, 7, {0}},
-    {'J', IGNORE_ACC, 0, false, 20, N50, {0, 0, 0, 0, 1000000}, 0, 0, 0, {0, 0, 0, 0, 20, 0, 0}},
-    {'J', IGNORE_ACC, 0, false, 20, N50, {0, 0, 0, 0, 1000001}, 0, 0, 10, {0}},
-    {'K', FAST, 0, false, 20, ACC, {0}, 0, 1, 0, {20, 0, 0, 0, 0, 0, 0}},
-    {'K', FAST, 0, false, 20, ACC, {0}, 0, 1 + 0x1p-52, 11, {0}},
+    {'A', NUQSILLAY_CLOSEST, 0, false, 20, NUQSILLAY_HAS_ACC | LAST_THREE, {0}, 0, 1208.0 / 1220, 0, {8, 12, 0, 0, 0, 0, 0}},
+    {'A', NUQSILLAY_NEAREST, 0, false, 20, NUQSILLAY_HAS_ACC | LAST_THREE, {0}, 0, 1208.0 / 1220, 0, {8, 12, 0, 0, 0, 0, 1}},
+    {'B', NUQSILLAY_CLOSEST, 0, true, 5, NUQSILLAY_HAS_ACC | LAST_THREE, {0}, 0, 1, 0, {2, 3, 0, 0, 0, 0, 0}},
+    {'B', NUQSILLAY_NEAREST, 0, true, 5, NUQSILLAY_HAS_ACC | LAST_THREE, {0}, 0, 1, 0, {5, 0, 0, 0, 0, 0, 1}},
+    {'C', NUQSILLAY_CLOSEST, 0, false, 20, NUQSILLAY_HAS_ACC, {0}, 0, 705.0 / 1220, 0, {9, 0, 0, 5, 6, 0, 0}},
+    {'C', NUQSILLAY_NEAREST, 0, false, 20, NUQSILLAY_HAS_ACC, {0}, 0, 705.0 / 1220, 0, {5, 0, 5, 10, 0, 0, ANY}},
+    {'D', NUQSILLAY_CLOSEST, 0, false, 5, NUQSILLAY_HAS_ACC | NUQSILLAY_HAS_N200, {0, 0, 9, 0, 0}, 0, 1, 0, {0, 0, 9, 0, 5, 0, 0}},
+    {'D', NUQSILLAY_NEAREST, 0, false, 5, NUQSILLAY_HAS_ACC | NUQSILLAY_HAS_N200, {0, 0, 9, 0, 0}, 0, 1, 14, {0}},
+    {'E', NUQSILLAY_CLOSEST, 0, false, 20, NUQSILLAY_HAS_ACC | NUQSILLAY_HAS_N320 | NUQSILLAY_HAS_N300, {0}, 0, 1, 0, {0, 0, 0, 0, 20, 0, 0}},
+    {'E', NUQSILLAY_NEAREST, 0, false, 20, NUQSILLAY_HAS_ACC | NUQSILLAY_HAS_N320 | NUQSILLAY_HAS_N300, {0}, 0, 1, 0, {0, 0, 20, 0, 0, 0, 3}},
+    {'F', NUQSILLAY_FAST, 0, false, 10, NUQSILLAY_HAS_ACC, {0}, 0, 0.5, 0, {4, 0, 0, 0, 6, 0, 0}},
+    {'G', NUQSILLAY_IGNORE_ACCURACY, 0, false, 10, NUQSILLAY_HAS_MISSES | NUQSILLAY_HAS_N100, {0, 0, 0, 3, 0}, 2, 0, 0, {5, 0, 0, 3, 0, 2, 0}},
+    {'G', NUQSILLAY_IGNORE_ACCURACY, 1, false, 10, NUQSILLAY_HAS_MISSES | NUQSILLAY_HAS_N100, {0, 0, 0, 3, 0}, 2, 0, 0, {0, 0, 0, 3, 5, 2, 0}},
+    {'H', NUQSILLAY_FAST, 0, false, 4, NUQSILLAY_HAS_ACC | NUQSILLAY_HAS_MISSES, {0}, 9, 1, 0, {0, 0, 0, 0, 0, 4, 0}},
+    {'H', NUQSILLAY_CLOSEST, 0, false, 4, NUQSILLAY_HAS_ACC | NUQSILLAY_HAS_MISSES, {0}, 9, 1, 0, {0, 0, 0, 0, 0, 4, 0}},
+    {'H', NUQSILLAY_NEAREST, 0, false, 4, NUQSILLAY_HAS_ACC | NUQSILLAY_HAS_MISSES, {0}, 9, 1, 0, {0, 0, 0, 0, 0, 4, 1}},
+    {'I', NUQSILLAY_CLOSEST, 0, false, 5, NUQSILLAY_HAS_ACC | FIRST_THREE, {3, 3, 0, 0, 0}, 0, 1, 12, {0}},
+    {'I', NUQSILLAY_CLOSEST, 0, false, 5, NUQSILLAY_HAS_ACC | FIRST_THREE, {3, 2, 0, 0, 0}, 0, 1, 0, {3, 2, 0, 0, 0, 0, 0}},
+    {'J', NUQSILLAY_IGNORE_ACCURACY, 0, false, 100000, 0, {0}, 0, 0, 0, {100000, 0, 0, 0, 0, 0, 0}},
+    {'J', NUQSILLAY_IGNORE_ACCURACY, 0, false, 100001, 0, {0}, 0, 0, 7, {0}},
+    {'J', NUQSILLAY_IGNORE_ACCURACY, 0, false, 20, NUQSILLAY_HAS_N50, {0, 0, 0, 0, 1000000}, 0, 0, 0, {0, 0, 0, 0, 20, 0, 0}},
+    {'J', NUQSILLAY_IGNORE_ACCURACY, 0, false, 20, NUQSILLAY_HAS_N50, {0, 0, 0, 0, 1000001}, 0, 0, 10, {0}},
+    {'K', NUQSILLAY_FAST, 0, false, 20, NUQSILLAY_HAS_ACC, {0}, 0, 1, 0, {20, 0, 0, 0, 0, 0, 0}},
+    {'K', NUQSILLAY_FAST, 0, false, 20, NUQSILLAY_HAS_ACC, {0}, 0, 1 + 0x1p-52, 11, {0}},
 };
 
 static struct query query_of(const struct play *p)
@@ -193,11 +191,11 @@ static void check_plays(void)
 static void check_order(void)
 {
     const uint32_t nothing[7] = {0};
-    struct query q = {.n_objects = 5, .method = NEAREST, .presence = FIRST_THREE, .n = {3, 3, 0, 0, 0}};
+    struct query q = {.n_objects = 5, .method = NUQSILLAY_NEAREST, .presence = FIRST_THREE, .n = {3, 3, 0, 0, 0}};
     check_outputs(generate, &q, 7, 13, nothing, "order", 13);
-    q.presence |= ACC;
+    q.presence |= NUQSILLAY_HAS_ACC;
     check_outputs(generate, &q, 7, 14, nothing, "order", 14);
-    q.method = CLOSEST;
+    q.method = NUQSILLAY_CLOSEST;
     check_outputs(generate, &q, 7, 12, nothing, "order", 12);
 
     const double outside[] = {NAN, -NAN, INFINITY, -INFINITY, -0x1p-1074, 1 + 0x1p-52};
@@ -224,15 +222,15 @@ static void check_order(void)
 static void check_fields(void)
 {
     struct query q = {
-        .n_objects = 20, .method = FAST, .n = {ANY, ANY, ANY, ANY, ANY}, .misses = ANY, .passed = 3, .acc = NAN,
+        .n_objects = 20, .method = NUQSILLAY_FAST, .n = {ANY, ANY, ANY, ANY, ANY}, .misses = ANY, .passed = 3, .acc = NAN,
     };
     check_outputs(generate, &q, 7, 0, (uint32_t[]){20, 0, 0, 0, 0, 0, 0}, "missing fields", 0);
 
-    struct query zero = {.n_objects = 20, .method = NEAREST, .presence = ACC, .acc = -0.0};
+    struct query zero = {.n_objects = 20, .method = NUQSILLAY_NEAREST, .presence = NUQSILLAY_HAS_ACC, .acc = -0.0};
     check_outputs(generate, &zero, 7, 0, (uint32_t[]){0, 0, 0, 0, 20, 0, ANY}, "acc", 0);
     check_outputs(target, &zero, 4, 0, (uint32_t[]){20, 0, 20, 0}, "acc of target", 0);
 
-    struct query holds = {.n_objects = 20, .n_hold_notes = 7, .presence = PASSED | MISSES, .passed = 5, .misses = 2, .acc = 1};
+    struct query holds = {.n_objects = 20, .n_hold_notes = 7, .presence = NUQSILLAY_HAS_PASSED | NUQSILLAY_HAS_MISSES, .passed = 5, .misses = 2, .acc = 1};
     check_outputs(generate, &holds, 7, 0, (uint32_t[]){10, 0, 0, 0, 0, 2, 0}, "holds", 0);
     check_outputs(target, &holds, 4, 0, (uint32_t[]){12, 2, 10, 732}, "holds of target", 0);
     holds.classic = true;

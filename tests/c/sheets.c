@@ -7,8 +7,6 @@
 
 #include "nuqsillay.h"
 
-enum { IGNORE_ACC, FAST, CLOSEST, NEAREST };
-enum { N320 = 1, N300 = 2, N200 = 4, MISSES = 32, ACC = 64 };
 enum { COUNT = 4, CHART = 8, QUERY = 44, ANSWER = 32, MOST = 47112, ROOM = 64 };
 
 /* What stands in an output before a call. */
@@ -113,8 +111,8 @@ static void check_example(void)
 {
     static struct sheet s;
     const uint32_t charts[1][2] = {{20, 0}};
-    const struct query e = {.method = NEAREST, .presence = N320 | N300 | ACC, .acc = 1};
-    const struct query bare = {.method = NEAREST};
+    const struct query e = {.method = NUQSILLAY_NEAREST, .presence = NUQSILLAY_HAS_N320 | NUQSILLAY_HAS_N300 | NUQSILLAY_HAS_ACC, .acc = 1};
+    const struct query bare = {.method = NUQSILLAY_NEAREST};
     put_charts(&s, 1, charts);
     put(&s, 2, 4);
     put_query(&s, &e);
@@ -127,29 +125,29 @@ static void check_statuses(void)
 {
     static struct sheet s;
     const uint32_t charts[3][2] = {{5, 0}, {100001, 0}, {0, 100001}};
-    const uint8_t first_three = N320 | N300 | N200;
+    const uint8_t first_three = NUQSILLAY_HAS_N320 | NUQSILLAY_HAS_N300 | NUQSILLAY_HAS_N200;
     const struct query rows[] = {
-        {.chart = 3, .method = 4, .zero = 1, .presence = N320, .n = {1000001}},
-        {.chart = 65535, .method = 4, .zero = 1, .presence = N320, .n = {1000001}},
-        {.chart = 1, .method = 4, .zero = 1, .presence = N320, .n = {1000001}},
+        {.chart = 3, .method = 4, .zero = 1, .presence = NUQSILLAY_HAS_N320, .n = {1000001}},
+        {.chart = 65535, .method = 4, .zero = 1, .presence = NUQSILLAY_HAS_N320, .n = {1000001}},
+        {.chart = 1, .method = 4, .zero = 1, .presence = NUQSILLAY_HAS_N320, .n = {1000001}},
         {.chart = 2, .classic = 1},
-        {.method = 4, .zero = 1, .presence = N320, .n = {1000001}},
+        {.method = 4, .zero = 1, .presence = NUQSILLAY_HAS_N320, .n = {1000001}},
         {.priority = 2, .zero = 1},
         {.classic = 2, .zero = 1},
-        {.zero = 1, .presence = N320, .n = {1000001}},
+        {.zero = 1, .presence = NUQSILLAY_HAS_N320, .n = {1000001}},
         {.zero = 0x100},
-        {.presence = N320, .n = {0, 1000001}},
+        {.presence = NUQSILLAY_HAS_N320, .n = {0, 1000001}},
         {.misses = 1},
         {.acc = -0.0},
-        {.presence = N320 | ACC, .n = {1000001}, .acc = NAN},
-        {.presence = MISSES | ACC, .misses = 1000001, .acc = 2},
-        {.method = IGNORE_ACC, .presence = ACC, .acc = NAN},
-        {.method = CLOSEST, .presence = first_three | ACC, .n = {3, 3}, .acc = 1 + 0x1p-52},
-        {.method = CLOSEST, .presence = first_three | ACC, .n = {3, 3}, .acc = 1},
-        {.method = NEAREST, .presence = first_three, .n = {3, 3}},
-        {.method = NEAREST, .presence = first_three | ACC, .n = {3, 3}, .acc = 1},
-        {.method = CLOSEST, .presence = first_three | ACC, .n = {3, 2}, .acc = 1},
-        {.method = FAST, .presence = MISSES | ACC, .misses = 9, .acc = 1},
+        {.presence = NUQSILLAY_HAS_N320 | NUQSILLAY_HAS_ACC, .n = {1000001}, .acc = NAN},
+        {.presence = NUQSILLAY_HAS_MISSES | NUQSILLAY_HAS_ACC, .misses = 1000001, .acc = 2},
+        {.method = NUQSILLAY_IGNORE_ACCURACY, .presence = NUQSILLAY_HAS_ACC, .acc = NAN},
+        {.method = NUQSILLAY_CLOSEST, .presence = first_three | NUQSILLAY_HAS_ACC, .n = {3, 3}, .acc = 1 + 0x1p-52},
+        {.method = NUQSILLAY_CLOSEST, .presence = first_three | NUQSILLAY_HAS_ACC, .n = {3, 3}, .acc = 1},
+        {.method = NUQSILLAY_NEAREST, .presence = first_three, .n = {3, 3}},
+        {.method = NUQSILLAY_NEAREST, .presence = first_three | NUQSILLAY_HAS_ACC, .n = {3, 3}, .acc = 1},
+        {.method = NUQSILLAY_CLOSEST, .presence = first_three | NUQSILLAY_HAS_ACC, .n = {3, 2}, .acc = 1},
+        {.method = NUQSILLAY_FAST, .presence = NUQSILLAY_HAS_MISSES | NUQSILLAY_HAS_ACC, .misses = 9, .acc = 1},
     };
     const size_t count = sizeof rows / sizeof *rows;
     put_charts(&s, 3, charts);
