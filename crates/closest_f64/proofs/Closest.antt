@@ -1,28 +1,26 @@
 -- On document 01's domain Closest in the Rust's own f64 and i64 steps is `closestAt`. Assumes nothing.
-use Prim.Native.Nat.{ℕ, zero, suc, _+_, _-_, _*_, _^_, _≤_, _<_, min}
-use mathlib.Core.Path.{_≡_, refl, sym, ap, _∙_, subst}
+use Prim.Native.Nat.{ℕ, _+_, _*_, _^_, _≤_, _<_}
+use mathlib.Core.Path.{_≡_, ap, _∙_}
 use mathlib.Core.Bool.{Bool, true, false, cond}
-use mathlib.Core.List.{List, [], _∷_}
+use mathlib.Core.List.{[], _∷_}
 use mathlib.Core.Option.{Option, none, some}
-use native.Mathlib.Nat.{le-refl, le-trans, lt-of-le-of-lt, le-add-right, add-le-add, mul-le-mul, mul-le-mul-left, sub-le}
+use native.Mathlib.Nat.{le-refl, le-trans, lt-of-le-of-lt, mul-le-mul, sub-le}
 use native.Mathlib.Omega.{arith}
 use lib.Dec.{T, eqb, lit<, lit≤}
-use lib.IntN.{ℤ, pos}
-use lib.ListN.{length}
+use lib.IntN.{ℤ}
 use lib.Ieee.{Float, le}
 use Rattle.rounding.specs.Round.{zero64, one64}
 use Rattle.score_state.specs.Points.{perfectWeight}
-use Rattle.score_state.specs.Given.{or, missing, givenPoints}
-use Rattle.score_state.specs.Accuracy.{cap}
+use Rattle.score_state.specs.Given.{or, givenPoints}
 use Rattle.inspect.specs.declared.Query.{Query}
 use Rattle.inspect.specs.Inspect.{Inspect, inspectOf, shortened, totalHits, misses, remain}
 use Rattle.inspect.specs.Target.{target}
 use Rattle.inspect.specs.Answers.{Answer, worked}
-use Rattle.inspect.specs.Checks.{Domain, chartLimit}
-use Rattle.closest_laws.specs.Closest.{Play, provided, weights, playOf, byMissing, closestAt}
-use Rattle.closest_f64.specs.Rust.{Args, options, weighting, «by_missing», argsOf, closestAtF64}
+use Rattle.inspect.specs.Checks.{Domain}
+use Rattle.closest_laws.specs.Closest.{provided, weights, playOf, closestAt}
+use Rattle.closest_f64.specs.Rust.{Args, «match_given», argsOf, closestAtF64}
 use Rattle.closest_f64.proofs.Target.{target-same, target-le}
-use Rattle.closest_f64.proofs.Same.{Small, toArgs, by-missing-same}
+use Rattle.closest_f64.proofs.Same.{Small, toArgs, match-same}
 
 weight-in : (classic : Bool) → (60 ≤ perfectWeight classic) × (perfectWeight classic ≤ 61)
 weight-in true = (lit≤ tt, lit≤ tt)
@@ -91,16 +89,16 @@ module _ (i : Inspect) (acc : Float) (b : Bounded i) (h : T (le zero64 acc)) (k 
   play-same : argsOf i acc ≡ toArgs (playOf i acc)
   unfolding argsOf playOf
   play-same =
-      ap (λ (t : ℤ). record { w320 = w; «target_numerator» = t; remain = remain i; misses = misses i; n320 = i .n320; n300 = i .n300; n200 = i .n200; n100 = i .n100; n50 = i .n50 })
+      ap (λ (t : ℤ). record { n320 = i .n320; n300 = i .n300; n200 = i .n200; n100 = i .n100; n50 = i .n50; remain = remain i; «target_numerator» = t; w320 = w; misses = misses i })
       (target-same acc w (totalHits i) points-lt h k)
 
   pub closest-at-same : closestAtF64 i acc ≡ closestAt i acc
-  unfolding closestAtF64 closestAt
+  unfolding closestAtF64 closestAt playOf
   closest-at-same =
       let none-left = worked (0 ∷ 0 ∷ 0 ∷ 0 ∷ 0 ∷ misses i ∷ []) in
-      let p = playOf i acc in
-      ap (λ (r : Args). cond (eqb (remain i) 0) none-left («by_missing» (length (missing (weighting r) (options r))) r)) play-same
-      ∙ ap (λ (a : Answer). cond (eqb (remain i) 0) none-left a) (by-missing-same (length (missing (weights p) (provided p))) p small)
+      ap (λ (p : Args). cond (eqb (remain i) 0) none-left («match_given» p (i .n320) (i .n300) (i .n200) (i .n100) (i .n50))) play-same
+      ∙ ap (λ (a : Answer). cond (eqb (remain i) 0) none-left a)
+      (match-same w (target acc w (totalHits i)) (remain i) (misses i) (i .n320) (i .n300) (i .n200) (i .n100) (i .n50) small)
 
 -- the theorem
 pub closest-is-the-rust : (q : Query) (acc : Float) → Domain q → T (le zero64 acc) → T (le acc one64) → closestAtF64 (inspectOf q) acc ≡ closestAt (inspectOf q) acc

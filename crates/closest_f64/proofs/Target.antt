@@ -1,11 +1,11 @@
 -- target_numerator, an f64 cast to i64, is the rounded target of crate `inspect`. Assumes nothing.
 use Prim.Native.Nat.{ℕ, _*_, _^_, _≤_, _<_}
-use mathlib.Core.Path.{_≡_, refl, sym, ap, _∙_, subst}
+use mathlib.Core.Path.{_≡_, refl, sym, ap, _∙_}
 use mathlib.Core.Bool.{true, false}
-use native.Mathlib.Nat.{mul-one, zero-mul, le-of-lt, le-trans, lt-of-le-of-lt, lt-of-lt-of-le}
+use native.Mathlib.Nat.{zero-mul, le-of-lt, le-trans, lt-of-le-of-lt, lt-of-lt-of-le}
 use lib.Dec.{T, le→leb, lit<, lit≤}
-use lib.IntN.{ℤ, pos}
-use lib.Ieee.{Float, nan, inf, fin, binary64, up, down, round, mul, lt, le, ofInt, inFloat, toSigned}
+use lib.IntN.{pos}
+use lib.Ieee.{Float, nan, inf, fin, binary64, up, down, round, lt, le, ofInt, inFloat, toSigned}
 use lib.Ieee.Fits.{down-pos}
 use lib.Ieee.Back.{positive-back}
 use lib.Ieee.Nearest.{closest, closest-same}

@@ -9,7 +9,6 @@ use Rattle.inspect.specs.Answers.{Answer}
 use Rattle.inspect.specs.declared.Query.{Query}
 use Rattle.ignore_acc.specs.IgnoreAcc.{ignoreAcc}
 use Rattle.closest_laws.specs.Closest.{closestAt}
-use Rattle.closest_f64.specs.Rust.{closestAtF64}
 use Rattle.closest_f64.proofs.Closest.{closest-is-the-rust}
 use Rattle.generate_laws.specs.Generate.{counted, untried, closestOf}
 

@@ -1,8 +1,8 @@
 -- A fraction a / b with a ≤ 2 ^ 31 and b ≤ 2 ^ 20, rounded to an f64, stays on its side of each whole number and of each half:
 -- so its floor, its ceiling and its nearest whole number, a half to even, are those of a / b. Assumes nothing.
-use mathlib.Core.Path.{_≡_, refl, sym, ap, _∙_, subst}
+use mathlib.Core.Path.{_≡_, sym, ap, _∙_, subst}
 use Prim.Native.Nat.{ℕ, suc, _+_, _-_, _*_, _/_, _%_, _^_, _≤_, _<_, compare, Ordering, Ordering·lt, Ordering·eq, Ordering·gt}
-use native.Mathlib.Nat.{le-antisymm, le-trans, le-of-eq, le-of-lt, lt-of-lt-of-le, lt-of-le-of-lt, mul-one, one-mul, mul-comm, mul-assoc, mul-right-comm, mul-pos, add-mul, mul-sub, mod-lt, div-add-mod', le-div-iff-mul-le, div-lt-iff-lt-mul, div-le-self, zero-mul, eq-zero-or-pos, mul-le-mul-right, not-le-of-lt, le-mul-of-pos-right, lt-of-mul-lt-mul-right, mul-lt-mul-of-pos-right, eq-of-mul-eq-mul-right, div-one, mod-one}
+use native.Mathlib.Nat.{le-antisymm, le-trans, le-of-eq, le-of-lt, lt-of-lt-of-le, lt-of-le-of-lt, mul-one, one-mul, mul-comm, mul-assoc, mul-right-comm, add-mul, mul-sub, mod-lt, div-add-mod', le-div-iff-mul-le, div-lt-iff-lt-mul, div-le-self, zero-mul, eq-zero-or-pos, mul-le-mul-right, not-le-of-lt, le-mul-of-pos-right, lt-of-mul-lt-mul-right, mul-lt-mul-of-pos-right, eq-of-mul-eq-mul-right, div-one, mod-one}
 use native.Mathlib.Omega.{arith}
 use mathlib.Core.Bool.{false}
 use mathlib.Core.Logic.{inl, inr}

@@ -3,7 +3,7 @@
 -- Assumes nothing.
 use mathlib.Core.Path.{_≡_, refl, sym, ap, _∙_, subst}
 use Prim.Native.Nat.{ℕ, zero, suc, _+_, _-_, _*_, _/_, _%_, _^_, _≤_, _<_, zero-le, compare}
-use native.Mathlib.Nat.{le-of-lt, le-trans, le-of-eq, lt-of-lt-of-le, lt-of-le-of-lt, zero-mul, div-le-self, mul-one, zero-div, le-mul-of-pos-right}
+use native.Mathlib.Nat.{le-of-lt, le-trans, le-of-eq, lt-of-lt-of-le, zero-mul, div-le-self, mul-one, zero-div, le-mul-of-pos-right}
 use native.Mathlib.Omega.{arith}
 use mathlib.Core.Bool.{Bool, true, false, cond, true≢false}
 use lib.IntN.{ℤ, pos, negsuc}
@@ -21,7 +21,7 @@ use Rattle.rounding.specs.Quotient.{roundedUp}
 use Rattle.rounding.proofs.Floats.{of-int, zero-is}
 use Rattle.rounding.proofs.Distance.{ratio-is, not-under}
 use Rattle.quotients.specs.Steps.{floor, ceil, roundTiesEven, max, asU32, quotient, floorU32, ceilU32, ceilAsU32, roundU32, orZero}
-use Rattle.quotients.proofs.Sides.{Alike, alike, up-same, up-le, up-zero, closest-le, closest-zero}
+use Rattle.quotients.proofs.Sides.{alike, up-same, up-le, up-zero, closest-le, closest-zero}
 
 -- ---- a whole number that is not negative, as an f64 and back
 back : (w : ℕ) → w < 2 ^ 32 → asU32 (round binary64 false w 1) ≡ w
