@@ -9,7 +9,7 @@ ghost use Rattle.rounding.specs.Round.{zero64, one64};
 ghost use Rattle.inspect.specs.Inspect.{inspectOf, accOf};
 ghost use Rattle.inspect.specs.Checks.{Domain};
 ghost use Rattle.generate_laws.specs.Generate.{untried, nearestOf, byMethod, answerBy, generateAnswer};
-ghost use Rattle.closest_laws.specs.Closest.{closestAt};
+ghost use Rattle.closest_f64.specs.Rust.{closestAtF64};
 ghost use Rattle.generate.specs.Generated.{generatedOf};
 ghost use Rattle.generate.specs.Code.{ignoresAcc};
 use closest::Closest;
@@ -24,11 +24,11 @@ pub enum Generated {
     Refused(u32),
 }
 
-// Closest at a given accuracy.
+// Closest at a given accuracy: the Rust's own steps by its contract.
 fn closest_counts(q: Query, acc: f64) -> Generated
     requires { ⌜ Domain q ⌝ }
     requires { ⌜ T (Ieee.le zero64 acc) ⌝ ∗ ⌜ T (Ieee.le acc one64) ⌝ }
-    ensures { λ r. ⌜ generatedOf r ≡ untried (closestAt (inspectOf q) acc) ⌝ }
+    ensures { λ r. ⌜ generatedOf r ≡ untried (closestAtF64 (inspectOf q) acc) ⌝ }
 {
     match closest::closest_at(q, acc) {
         Closest::Counts(counts) => Generated::Counts(counts, 0),

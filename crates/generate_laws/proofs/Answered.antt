@@ -17,7 +17,7 @@ use Rattle.inspect.specs.declared.Query.{Query}
 use Rattle.ignore_acc.specs.IgnoreAcc.{ignoreAcc}
 use Rattle.fast.specs.Fast.{withAcc, byAcc}
 use Rattle.fast.proofs.Steps.{fast-given, fast-absent}
-use Rattle.closest_laws.specs.Closest.{closestAt}
+use Rattle.closest_f64.specs.Rust.{closestAtF64}
 use Rattle.nearest_laws.specs.Nearest.{Found, nearest}
 use Rattle.generate_laws.specs.Generate.{counted, untried, byMethod, closestOf, foundOf, nearestOf, answerBy}
 use Rattle.generate_laws.specs.Method3.{targetOf}
@@ -47,7 +47,7 @@ pub fast-at : (i : Inspect) (acc : Float) (r : HitResults) → i .acc ≡ some a
 unfolding byMethod
 fast-at i acc r e h = ap counted (fast-given i acc r e h)
 
-pub closest-at : (i : Inspect) (acc : Float) (a : Answer (List ℕ)) → i .acc ≡ some acc → a ≡ untried (closestAt i acc) → a ≡ byMethod 2 i
+pub closest-at : (i : Inspect) (acc : Float) (a : Answer (List ℕ)) → i .acc ≡ some acc → a ≡ untried (closestAtF64 i acc) → a ≡ byMethod 2 i
 unfolding byMethod closestOf
 closest-at i acc a e h = h ∙ ap (closestOf i) (sym e)
 

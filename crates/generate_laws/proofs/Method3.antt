@@ -16,7 +16,7 @@ use Rattle.score_state.specs.Points.{hits, standard}
 use Rattle.score_state.specs.Given.{missing, givenHits}
 use Rattle.score_state.specs.declared.HitResults.{HitResults}
 use Rattle.inspect.specs.Inspect.{Inspect, inspectOf, givens, totalHits, misses, remain}
-use Rattle.inspect.specs.Checks.{chartOver, unknownCode, countOver, accOutside, stopOf}
+use Rattle.inspect.specs.Checks.{chartOver, unknownCode, countOver, accOutside, stopOf, Domain}
 use Rattle.score_state.specs.Answer.{Answer, worked, refused, statusOf, valuesOf}
 use Rattle.inspect.specs.declared.Query.{Query}
 use Rattle.inspect.proofs.Checked.{domain, remain-and-misses, total-within}
@@ -27,6 +27,7 @@ use Rattle.nearest_laws.proofs.Nearest.{nearest-split, nearest-near, nearest-st
 use Rattle.nearest_laws.proofs.Tried.{tried-standard}
 use Rattle.generate_laws.specs.Generate.{untried, closestOf, foundOf, nearestOf, byMethod, answerBy, generateAnswer}
 use Rattle.generate_laws.specs.Method3.{fiveOf, targetOf, distanceOf, walkOf, IsNearest}
+use Rattle.generate_laws.proofs.Exact.{exactOf, exact-is}
 use Rattle.generate_laws.proofs.EquallyFar.{equally-far, closest-hits}
 
 -- ---- what the direct call answers once the shared checks pass
@@ -151,10 +152,13 @@ untried-status : (a : Answer (List ℕ)) → statusOf (untried a) ≡ statusOf a
 untried-status (worked xs) = refl
 untried-status (refused n) = refl
 
-closest-small : (i : Inspect) (o : Option Float) → statusOf (closestOf i o) ≤ 12
-unfolding closestOf
-closest-small i none = omega arith
-closest-small i (some acc) = rw untried-status (closest-six i acc .0)
+exact-small : (i : Inspect) (o : Option Float) → statusOf (exactOf i o) ≤ 12
+unfolding exactOf
+exact-small i none = omega arith
+exact-small i (some acc) = rw untried-status (closest-six i acc .0)
+
+closest-small : (q : Query) → Domain q → statusOf (closestOf (inspectOf q) (inspectOf q .acc)) ≤ 12
+closest-small q d = rw (exact-is q d) (exact-small (inspectOf q) (inspectOf q .acc))
 
 found-status : (i : Inspect) (o : Option Found) → statusOf (foundOf i o) ≤ 14
 unfolding foundOf
@@ -166,18 +170,18 @@ unfolding nearestOf
 nearest-status i none = omega arith
 nearest-status i (some acc) = found-status i (walked i acc)
 
-method-status : (m : ℕ) (i : Inspect) → statusOf (byMethod m i) ≤ 14
+method-status : (m : ℕ) (q : Query) → Domain q → statusOf (byMethod m (inspectOf q)) ≤ 14
 unfolding byMethod
-method-status zero i = omega arith
-method-status (suc zero) i = omega arith
-method-status (suc (suc zero)) i = omega (arith, closest-small i (i .acc))
-method-status (suc (suc (suc n))) i = nearest-status i (i .acc)
+method-status zero q d = omega arith
+method-status (suc zero) q d = omega arith
+method-status (suc (suc zero)) q d = omega (arith, closest-small q d)
+method-status (suc (suc (suc n))) q d = nearest-status (inspectOf q) (inspectOf q .acc)
 
 pub status-small : (q : Query) → statusOf (generateAnswer q) ≤ 14
 status-small q = go (eqb (stopOf q) 0) refl
   where
     go : (b : Bool) → eqb (stopOf q) 0 ≡ b → statusOf (generateAnswer q) ≤ 14
-    go true b = rw (passes q (eqb-true (stopOf q) 0 b)) (method-status (q .method) (inspectOf q))
+    go true b = let p = eqb-true (stopOf q) 0 b in rw (passes q p) (method-status (q .method) q (domain q p))
     go false b = rw (halts q (eqb-false (stopOf q) 0 b)) (omega (arith, stop-small q))
 
 -- an answer of five counts at least, which are no more than a chart's hits
@@ -229,12 +233,12 @@ unfolding nearestOf
 nearest-14 i none e = absurd (omega arith)
 nearest-14 i (some acc) e = (acc, refl, found-fourteen i acc .0 e)
 
-method-14 : (m : ℕ) (i : Inspect) → m ≤ 3 → statusOf (byMethod m i) ≡ 14 → (m ≡ 3) × (statusOf (nearestOf i (i .acc)) ≡ 14)
+method-14 : (m : ℕ) (q : Query) → Domain q → m ≤ 3 → statusOf (byMethod m (inspectOf q)) ≡ 14 → (m ≡ 3) × (statusOf (nearestOf (inspectOf q) (inspectOf q .acc)) ≡ 14)
 unfolding byMethod
-method-14 zero i l e = absurd (omega arith)
-method-14 (suc zero) i l e = absurd (omega arith)
-method-14 (suc (suc zero)) i l e = absurd (omega (arith, closest-small i (i .acc)))
-method-14 (suc (suc (suc n))) i l e = (omega arith, e)
+method-14 zero q d l e = absurd (omega arith)
+method-14 (suc zero) q d l e = absurd (omega arith)
+method-14 (suc (suc zero)) q d l e = absurd (omega (arith, closest-small q d))
+method-14 (suc (suc (suc n))) q d l e = (omega arith, e)
 
 only-14 : (q : Query) → statusOf (generateAnswer q) ≡ 14 → Fourteen q
 only-14 q e = go (eqb (stopOf q) 0) refl
@@ -242,7 +246,7 @@ only-14 q e = go (eqb (stopOf q) 0) refl
     go : (b : Bool) → eqb (stopOf q) 0 ≡ b → Fourteen q
     go true b =
         let p = eqb-true (stopOf q) 0 b in
-        let m = method-14 (q .method) (inspectOf q) (domain q p .method) (ap (λ (a : Answer (List ℕ)). statusOf a) (sym (passes q p)) ∙ e) in
+        let m = method-14 (q .method) q (domain q p) (domain q p .method) (ap statusOf (sym (passes q p)) ∙ e) in
         let n = nearest-14 (inspectOf q) ((inspectOf q) .acc) (m .1) in
         record { method = m .0; passes = p; acc = n .0; given = n .1; none-exists = n .2 }
     go false b =
@@ -278,8 +282,8 @@ untried-small i acc two c t =
 
 both-answer
     : (i : Inspect) (o : Option Float) → o ≡ i .acc → length (missing (standard (i .classic)) (givens i)) ≡ 2
-    → statusOf (closestOf i o) ≡ 0 → statusOf (nearestOf i o) ≡ 0 → totalHits i ≤ 200_000 → EquallyFar i (closestOf i o) (nearestOf i o)
-unfolding closestOf nearestOf foundOf
+    → statusOf (exactOf i o) ≡ 0 → statusOf (nearestOf i o) ≡ 0 → totalHits i ≤ 200_000 → EquallyFar i (exactOf i o) (nearestOf i o)
+unfolding exactOf nearestOf foundOf
 both-answer i none h two c n t = absurd (omega arith)
 both-answer i (some acc) h two c n t = go (stops (givens i) (remain i)) refl n
   where
@@ -317,9 +321,10 @@ pub equally
     → EquallyFar (inspectOf q) (generateAnswer q) (generateAnswer r)
 equally q r mq mr same two eq er =
     let i = inspectOf q in
-    let a : generateAnswer q ≡ closestOf i (i .acc) = passes q (passed-0 q eq) ∙ second (q .method) i mq in
+    let d = domain q (passed-0 q eq) in
+    let a : generateAnswer q ≡ exactOf i (i .acc) = passes q (passed-0 q eq) ∙ second (q .method) i mq ∙ exact-is q d in
     let b : generateAnswer r ≡ nearestOf i (i .acc) =
     passes r (passed-0 r er) ∙ third (r .method) (inspectOf r) mr ∙ ap (λ (j : Inspect). nearestOf j (j .acc)) (sym same) in
     rw (a, b)
-    (both-answer i (i .acc) refl two (ap (λ (x : Answer (List ℕ)). statusOf x) (sym a) ∙ eq) (ap (λ (x : Answer (List ℕ)). statusOf x) (sym b) ∙ er)
-    (total-within q (domain q (passed-0 q eq))))
+    (both-answer i (i .acc) refl two (ap statusOf (sym a) ∙ eq) (ap statusOf (sym b) ∙ er)
+    (total-within q d))

@@ -12,12 +12,14 @@ use lib.ListN.{length, length-append}
 use Rattle.score_state.specs.Answer.{Answer, worked, refused, statusOf, valuesOf}
 use Rattle.score_state.specs.Points.{standard}
 use Rattle.inspect.specs.Inspect.{Inspect, inspectOf, givens, remain}
-use Rattle.inspect.specs.Checks.{stopOf}
+use Rattle.inspect.specs.Checks.{stopOf, Domain}
 use Rattle.inspect.specs.declared.Query.{Query}
+use Rattle.inspect.proofs.Checked.{domain}
 use Rattle.closest_laws.specs.Closest.{closestAt}
 use Rattle.nearest_laws.specs.Nearest.{Found, nearest}
-use Rattle.generate_laws.specs.Generate.{untried, closestOf, foundOf, nearestOf, byMethod, generateAnswer}
+use Rattle.generate_laws.specs.Generate.{untried, foundOf, nearestOf, byMethod, generateAnswer}
 use Rattle.generate_laws.specs.Method3.{targetOf}
+use Rattle.generate_laws.proofs.Exact.{exactOf, exact-is}
 use Rattle.generate_laws.proofs.Method3.{passes, halts, SixOr12, closest-six}
 
 abbrev Full : Answer (List ℕ) → Type 0
@@ -32,28 +34,28 @@ unfolding foundOf
 found-full i none e = absurd (omega arith)
 found-full i (some f) e = simp length-append (omega arith)
 
-closest-full : (i : Inspect) (o : Option Float) → Full (closestOf i o)
-unfolding closestOf
-closest-full i none e = omega arith
-closest-full i (some acc) e = untried-full (closestAt i acc) (closest-six i acc) e
+exact-full : (i : Inspect) (o : Option Float) → Full (exactOf i o)
+unfolding exactOf
+exact-full i none e = omega arith
+exact-full i (some acc) e = untried-full (closestAt i acc) (closest-six i acc) e
 
 nearest-full : (i : Inspect) (o : Option Float) → Full (nearestOf i o)
 unfolding nearestOf
 nearest-full i none e = absurd (omega arith)
 nearest-full i (some acc) e = found-full i (nearest (standard (i .classic)) (givens i) (targetOf i acc) (remain i)) e
 
-method-full : (m : ℕ) (i : Inspect) → Full (byMethod m i)
+method-full : (m : ℕ) (q : Query) → Domain q → Full (byMethod m (inspectOf q))
 unfolding byMethod
-method-full zero i e = omega arith
-method-full (suc zero) i e = omega arith
-method-full (suc (suc zero)) i e = closest-full i (i .acc) e
-method-full (suc (suc (suc m))) i e = nearest-full i (i .acc) e
+method-full zero q d e = omega arith
+method-full (suc zero) q d e = omega arith
+method-full (suc (suc zero)) q d e = subst Full (sym (exact-is q d)) (exact-full (inspectOf q) (inspectOf q .acc)) e
+method-full (suc (suc (suc m))) q d e = nearest-full (inspectOf q) (inspectOf q .acc) e
 
 answer-full : (q : Query) → Full (generateAnswer q)
 answer-full q = go (eqb (stopOf q) 0) refl
   where
     go : (b : Bool) → eqb (stopOf q) 0 ≡ b → Full (generateAnswer q)
-    go true b = rw (passes q (eqb-true (stopOf q) 0 b)) (method-full (q .method) (inspectOf q))
+    go true b = let p = eqb-true (stopOf q) 0 b in rw (passes q p) (method-full (q .method) q (domain q p))
     go false b = rw (halts q (eqb-false (stopOf q) 0 b)) (λ (z : stopOf q ≡ 0). absurd (eqb-false (stopOf q) 0 b z))
 
 pub numbered : (q : Query) (n : ℕ) → refused n ≡ generateAnswer q → 0 < n
