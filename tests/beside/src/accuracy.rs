@@ -2,9 +2,9 @@
 
 use crate::{
     inputs::{Rng, Size},
-    mania::ManiaHitResults,
     ours,
     query::CAP,
+    repo,
     tally::Tally,
 };
 
@@ -17,15 +17,7 @@ pub fn answer(counts: &[u32; 6], classic: bool) -> Result<u64, u32> {
         return Err(10);
     }
 
-    let [n320, n300, n200, n100, n50, misses] = *counts;
-    let results = ManiaHitResults {
-        n320,
-        n300,
-        n200,
-        n100,
-        n50,
-        misses,
-    };
+    let results = repo::results(counts);
 
     Ok(results.accuracy(classic).to_bits())
 }

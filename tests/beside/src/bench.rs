@@ -9,7 +9,6 @@ use std::{
 
 use crate::{
     inputs::{self, Rng},
-    mania::ManiaHitResults,
     nearest, ours,
     query::{ACC, CAP, CHART, Method, Query},
     repo,
@@ -107,13 +106,10 @@ fn exact(rng: &mut Rng, n: usize, hits: u32, missing: usize) -> Vec<Query> {
             n_objects: hits.min(CHART),
             n_hold_notes: hits - hits.min(CHART),
             method: Method::Closest.code(),
-            priority: 0,
             classic: hits <= CHART && rng.one_in(2),
             presence: ACC | rng.upto(31) as u8,
             counts: std::array::from_fn(|_| rng.upto(hits / 4)),
-            misses: 0,
-            passed: 0,
-            acc: 0.0,
+            ..Query::default()
         };
 
         if q.missing() == missing {
@@ -218,13 +214,8 @@ fn longest() -> Query {
         n_objects: CHART,
         n_hold_notes: CHART,
         method: Method::Nearest.code(),
-        priority: 0,
-        classic: false,
         presence: ACC,
-        counts: [0; 5],
-        misses: 0,
-        passed: 0,
-        acc: 0.0,
+        ..Query::default()
     };
     q.aim(1);
     q
@@ -373,17 +364,7 @@ fn accuracy(rng: &mut Rng) {
         value
     };
 
-    let rust = |&[n320, n300, n200, n100, n50, misses]: &[u32; 6]| {
-        let results = ManiaHitResults {
-            n320,
-            n300,
-            n200,
-            n100,
-            n50,
-            misses,
-        };
-        results.accuracy(false)
-    };
+    let rust = |counts: &[u32; 6]| repo::results(counts).accuracy(false);
 
     tell("accuracy", "the Rust", time(&batch, ours, rust));
 }

@@ -342,14 +342,13 @@ fn small(hits: u32, classic: bool, misses: u32, turn: u32) -> Query {
     Query {
         n_objects,
         n_hold_notes,
-        method: 0,
         priority: (turn / 3 % 2) as u8,
         classic,
         presence,
         counts: [turn; 5],
         misses: given_misses.unwrap_or(turn),
         passed: passed.unwrap_or(turn),
-        acc: 0.0,
+        ..Query::default()
     }
 }
 

@@ -27,20 +27,6 @@ const RECORDS: usize = 400;
 /// The list's own seed, so that it stays the same.
 const SEED: u64 = 1;
 
-/// What fills the fields that accuracy does not take.
-const EMPTY: Query = Query {
-    n_objects: 0,
-    n_hold_notes: 0,
-    method: 0,
-    priority: 0,
-    classic: false,
-    presence: 0,
-    counts: [0; 5],
-    misses: 0,
-    passed: 0,
-    acc: 0.0,
-};
-
 fn record(kind: u8, q: &Query, answer: &Answer) -> Vec<u8> {
     let mut bytes = vec![kind, q.priority, q.classic.into(), q.presence];
     let mut number = |n: u32| bytes.extend(n.to_le_bytes());
@@ -85,7 +71,7 @@ fn accuracies(rng: &mut Rng) -> Vec<Vec<u8>> {
                 classic,
                 counts,
                 misses,
-                ..EMPTY
+                ..Query::default()
             };
             let answer = match accuracy::answer(&input, classic) {
                 Ok(bits) => Answer {

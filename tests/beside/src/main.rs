@@ -5,8 +5,8 @@
 //! types that they ask for (repo.rs). The library is linked through its C interface (ours.rs).
 //! Nearest, which is not the repository's, has a plain walk written from document 01 beside it.
 //!
-//! `run [part ..]` builds and runs the parts: accuracy, target, ignore_acc, fast, closest, nearest,
-//! generate, sheets and bench; all of them if none is named. Each but bench ends with a line
+//! `run [part ..]` builds and runs the parts that `PARTS` lists; all of them if none is named. `run
+//! parts` prints their names. Each but bench ends with a line
 //! `part: N inputs, D differences, S s`, and any difference ends the program with 1. `run list`
 //! writes the Rust's answers to a file instead (list.rs).
 //!
@@ -39,38 +39,23 @@ mod target;
 // The repository's modules, which expect to stand at the root.
 include!(concat!(env!("OUT_DIR"), "/tree.rs"));
 
-const PARTS: [&str; 9] = [
-    "accuracy",
-    "target",
-    "ignore_acc",
-    "fast",
-    "closest",
-    "nearest",
-    "generate",
-    "sheets",
-    "bench",
+/// The parts in their order, each with what runs it and says whether nothing differed.
+type Part = (&'static str, fn(&mut Rng) -> bool);
+
+const PARTS: [Part; 9] = [
+    ("accuracy", accuracy::run),
+    ("target", target::run),
+    ("ignore_acc", |rng| plain::run(Method::IgnoreAcc, rng)),
+    ("fast", |rng| plain::run(Method::Fast, rng)),
+    ("closest", closest::run),
+    ("nearest", nearest::run),
+    ("generate", generate::run),
+    ("sheets", sheets::run),
+    ("bench", |rng| {
+        bench::run(rng);
+        true
+    }),
 ];
-
-/// Runs a part and says whether nothing differed.
-fn run(part: &str) -> bool {
-    let mut rng = Rng::new(inputs::number("SEED", 1));
-    let rng = &mut rng;
-
-    match part {
-        "accuracy" => accuracy::run(rng),
-        "target" => target::run(rng),
-        "ignore_acc" => plain::run(Method::IgnoreAcc, rng),
-        "fast" => plain::run(Method::Fast, rng),
-        "closest" => closest::run(rng),
-        "nearest" => nearest::run(rng),
-        "generate" => generate::run(rng),
-        "sheets" => sheets::run(rng),
-        _ => {
-            bench::run(rng);
-            true
-        }
-    }
-}
 
 fn main() -> ExitCode {
     repo::quiet_panics();
@@ -93,19 +78,26 @@ fn main() -> ExitCode {
         };
     }
 
-    if let Some(unknown) = named.iter().find(|part| !PARTS.contains(&part.as_str())) {
+    let names = PARTS.map(|(name, _)| name);
+
+    if named == ["parts"] {
+        println!("{}", names.join(" "));
+        return ExitCode::SUCCESS;
+    }
+
+    if let Some(unknown) = named.iter().find(|part| !names.contains(&part.as_str())) {
         eprintln!(
             "beside: no part {unknown}; there are {}, list and full",
-            PARTS.join(", ")
+            names.join(", ")
         );
         return ExitCode::from(2);
     }
 
     let mut good = true;
 
-    for part in PARTS {
-        if named.is_empty() || named.iter().any(|name| name == part) {
-            good &= run(part);
+    for (name, run) in PARTS {
+        if named.is_empty() || named.iter().any(|part| part == name) {
+            good &= run(&mut Rng::new(inputs::number("SEED", 1)));
         }
     }
 

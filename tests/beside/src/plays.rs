@@ -27,15 +27,9 @@ impl Play {
 fn chart(n_objects: u32, given: &[(&str, u32)]) -> Query {
     let mut q = Query {
         n_objects,
-        n_hold_notes: 0,
-        method: 0,
-        priority: 0,
-        classic: false,
         presence: ACC,
-        counts: [0; 5],
-        misses: 0,
-        passed: 0,
         acc: 1.0,
+        ..Query::default()
     };
 
     for &(name, n) in given {

@@ -40,8 +40,9 @@ impl Method {
     }
 }
 
-/// What a direct call takes. A missing field's number is there but means nothing.
-#[derive(Clone, Copy, Debug)]
+/// What a direct call takes. A missing field's number is there but means nothing. The default is
+/// IgnoreAccuracy of an empty chart, not classic, with nothing given.
+#[derive(Clone, Copy, Debug, Default)]
 pub struct Query {
     pub n_objects: u32,
     pub n_hold_notes: u32,

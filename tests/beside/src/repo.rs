@@ -142,6 +142,20 @@ pub fn inspect<T>(q: &Query, f: impl FnOnce(InspectManiaPerformance<'_>) -> T) -
     f(Mania::inspect_performance(&perf, &attrs))
 }
 
+/// Six counts, from n320 to misses, as the repository holds them.
+pub fn results(counts: &[u32; 6]) -> ManiaHitResults {
+    let [n320, n300, n200, n100, n50, misses] = *counts;
+
+    ManiaHitResults {
+        n320,
+        n300,
+        n200,
+        n100,
+        n50,
+        misses,
+    }
+}
+
 /// Runs one of the repository's generators.
 pub fn generate(q: &Query) -> ManiaHitResults {
     inspect(q, |inspect| match q.method() {
