@@ -26,7 +26,7 @@ use Rattle.score_state.specs.Answer.{worked, refused}
 use Rattle.closest_laws.specs.Loops.{range, each, Kept, scan, nearer}
 use Rattle.closest_laws.specs.Closest.{Play, Last, max64, provided, weights, resultOf, splitAt, solveTwo, solve, optimizeTwoMissing, lastAt, optimizeLastThree, space, values, values320, values300, resultAt, tryAt, inner, outer, start, search, optimizeThreePlusMissing, clamp, clampAndFill, six, byMissing}
 use Rattle.closest_laws.proofs.Scan.{mem-range}
-use Rattle.closest_f64.specs.Rust.{Args, «abs_as_f64», «at_x», «solve_two_vars», «match_two_missing», «optimize_two_missing», «at_n200», «optimize_last_three», «min_space_needed», «n320_values», «n300_values», «result_at», «dist_of», «at_new300», «at_new320», «best_result», «optimize_three_plus_missing», count, «optimize_hitresults», «match_given»}
+use Rattle.closest_f64.specs.Rust.{Args, «abs_as_f64», «x_values», «at_x», «solve_two_vars», «match_two_missing», «optimize_two_missing», «n200_values», «at_n200», «optimize_last_three», «min_space_needed», «n320_values», «n300_values», «result_at», «dist_of», «at_new300», «at_new320», «best_result», «optimize_three_plus_missing», count, «optimize_hitresults», «match_given»}
 use Rattle.closest_f64.proofs.Signed.{sub-le as pos-sub, one-less, two-less, three-less, apart}
 use Rattle.closest_f64.proofs.Scans.{Try, scan-same, each-same}
 
@@ -51,6 +51,17 @@ less T a h = omega arith
 gap-le : (a b : ℕ) → a ≤ 2 ^ 52 → b ≤ 2 ^ 52 → gap a b ≤ 2 ^ 53
 unfolding gap
 gap-le a b h k = omega arith
+
+-- what solve_two_vars tries
+abbrev pub tries : ℕ → ℕ → ℕ → List ℕ
+tries h lo hi = 0 ∷ min h lo ∷ min h hi ∷ h ∷ []
+
+pub tries-le : (h lo hi x : ℕ) → List·Memᴰ x (tries h lo hi) → x ≤ h
+tries-le h lo hi x (List·Memᴰ·head e) = omega arith
+tries-le h lo hi x (List·Memᴰ·tail (List·Memᴰ·head e)) = omega arith
+tries-le h lo hi x (List·Memᴰ·tail (List·Memᴰ·tail (List·Memᴰ·head e))) = omega arith
+tries-le h lo hi x (List·Memᴰ·tail (List·Memᴰ·tail (List·Memᴰ·tail (List·Memᴰ·head e)))) = omega arith
+tries-le h lo hi x (List·Memᴰ·tail (List·Memᴰ·tail (List·Memᴰ·tail (List·Memᴰ·tail m)))) = absurd (List·Memᴰ·not-nil m)
 
 -- `(x, y)` as a list
 abbrev pairList : ℕ × ℕ → List ℕ
@@ -79,30 +90,20 @@ module _ (w1 w2 T h P : ℕ) (falls : w2 ≤ w1) (light : w1 ≤ 61) (aim : T < 
   abbrev over : ℕ
   over = T - (P + w2 * h)
 
-  abbrev tries : ℕ → ℕ → List ℕ
-  tries lo hi = 0 ∷ min h lo ∷ min h hi ∷ h ∷ []
-
-  tries-le : (lo hi x : ℕ) → List·Memᴰ x (tries lo hi) → x ≤ h
-  tries-le lo hi x (List·Memᴰ·head e) = omega arith
-  tries-le lo hi x (List·Memᴰ·tail (List·Memᴰ·head e)) = omega arith
-  tries-le lo hi x (List·Memᴰ·tail (List·Memᴰ·tail (List·Memᴰ·head e))) = omega arith
-  tries-le lo hi x (List·Memᴰ·tail (List·Memᴰ·tail (List·Memᴰ·tail (List·Memᴰ·head e)))) = omega arith
-  tries-le lo hi x (List·Memᴰ·tail (List·Memᴰ·tail (List·Memᴰ·tail (List·Memᴰ·tail m)))) = absurd (List·Memᴰ·not-nil m)
-
   foundR : ℕ → ℕ → ℕ × ℕ
-  foundR lo hi = scan lt (each (tries lo hi) (λ x. «at_x» h i64 w1 w2 x ∷ [])) (record { dist = max64; result = (0, h) }) .result
+  foundR lo hi = scan lt (each (tries h lo hi) (λ x. «at_x» h i64 w1 w2 x ∷ [])) (record { dist = max64; result = (0, h) }) .result
 
   foundN : ℕ → ℕ → List ℕ
-  foundN lo hi = scan nearer (each (tries lo hi) (λ x. splitAt w1 w2 T h P x ∷ [])) (record { dist = none; result = 0 ∷ h ∷ [] }) .result
+  foundN lo hi = scan nearer (each (tries h lo hi) (λ x. splitAt w1 w2 T h P x ∷ [])) (record { dist = none; result = 0 ∷ h ∷ [] }) .result
 
   found : (lo hi : ℕ) → pairList (foundR lo hi) ≡ foundN lo hi
   unfolding foundR foundN
   found lo hi =
-      scan-same pairList (tries lo hi) (λ x. splitAt w1 w2 T h P x) (λ x. «at_x» h i64 w1 w2 x) (record { dist = none; result = 0 ∷ h ∷ [] }) (record { dist = max64; result = (0, h) })
-      (λ x m. split-try x (tries-le lo hi x m)) (record { dist = refl; result = refl })
+      scan-same pairList (tries h lo hi) (λ x. splitAt w1 w2 T h P x) (λ x. «at_x» h i64 w1 w2 x) (record { dist = none; result = 0 ∷ h ∷ [] }) (record { dist = max64; result = (0, h) })
+      (λ x m. split-try x (tries-le h lo hi x m)) (record { dist = refl; result = refl })
 
   solve-two : pairList («solve_two_vars» h i64 w1 w2) ≡ solveTwo w1 w2 T h P
-  unfolding «solve_two_vars» solveTwo foundR foundN
+  unfolding «solve_two_vars» «x_values» solveTwo foundR foundN
   solve-two = go (eqb w1 w2) refl
     where
       raw : Float
@@ -122,17 +123,16 @@ module _ (w1 w2 T h P : ℕ) (falls : w2 ≤ w1) (light : w1 ≤ 61) (aim : T < 
           found (floorU32 raw) (ceilU32 raw) ∙ ap (λ (x : ℕ). foundN x (ceilU32 raw)) a ∙ ap (λ (x : ℕ). foundN (over / (w1 - w2)) x) b
 
 -- the weights fall from b down
-Under : ℕ → List ℕ → Type 0
+abbrev pub Under : ℕ → List ℕ → Type 0
 Under b [] = T true
 Under b (w ∷ ws) = (w ≤ b) × Under w ws
 
 under-more : (a b : ℕ) (ws : List ℕ) → a ≤ b → Under a ws → Under b ws
-unfolding Under
 under-more a b [] l h = tt
 under-more a b (w ∷ ws) l h = (le-trans (h .0) l, h .1)
 
-missing-under : (b : ℕ) (ws : List ℕ) (gs : List (Option ℕ)) → Under b ws → Under b (missing ws gs)
-unfolding Under missing
+pub missing-under : (b : ℕ) (ws : List ℕ) (gs : List (Option ℕ)) → Under b ws → Under b (missing ws gs)
+unfolding missing
 missing-under b [] gs h = tt
 missing-under b (w ∷ ws) [] h = tt
 missing-under b (w ∷ ws) (none ∷ gs) h = (h .0, missing-under w ws gs (h .1))
@@ -146,7 +146,7 @@ solvedBy f (w1 ∷ (w2 ∷ ws)) = pairList (f w1 w2)
 
 solve-same : (ws : List ℕ) (T h P : ℕ) → Under 61 ws → T < 2 ^ 31 → h ≤ 2 ^ 31 → P ≤ 2 ^ 40
     → solvedBy («solve_two_vars» h (pos T -ℤ pos P)) ws ≡ solve ws T h P
-unfolding Under solvedBy solve
+unfolding solvedBy solve
 solve-same [] T h P u a f e = refl
 solve-same (w1 ∷ []) T h P u a f e = refl
 solve-same (w1 ∷ (w2 ∷ ws)) T h P u a f e = solve-two w1 w2 T h P (u .1 .0) (u .0) a f e
@@ -208,7 +208,7 @@ toArgs p = record {
 
 two-same : (p : Play) → Small p
     → «optimize_two_missing» (toArgs p) ≡ cond (ltb (p .remain) (givenHits (provided p))) (refused 12) (worked (six (optimizeTwoMissing p)))
-unfolding «optimize_two_missing» optimizeTwoMissing Under
+unfolding «optimize_two_missing» optimizeTwoMissing
 two-same p s =
     let u : Under 61 (weights p) = (s .top, (s .heavy, (lit≤ tt, (lit≤ tt, (lit≤ tt, tt))))) in
     let h = p .remain - givenHits (provided p) in
@@ -276,7 +276,7 @@ module _ (r A T : ℕ) (aim : T < 2 ^ 31) (few : r ≤ 2 ^ 31) (earned : A ≤ 2
       ap (λ (c : ℕ). min k c) (round-at (score -ℤ pos a -ℤ pos (w * k)) (T - (A + a + w * k)) d (three-less T A a (w * k)) (less T (A + a + w * k) aim) D l)
 
   last-same : (g2 g1 g5 : Option ℕ) → «optimize_last_three» g2 g1 g5 r score ≡ optimizeLastThree range g2 g1 g5 r A T
-  unfolding «optimize_last_three» optimizeLastThree
+  unfolding «optimize_last_three» «n200_values» optimizeLastThree
   last-same (some n2) (some n1) (some n5) = refl
   last-same (some n2) (some n1) none = refl
   last-same (some n2) none (some n5) = refl

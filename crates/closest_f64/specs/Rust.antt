@@ -44,7 +44,13 @@ abbrev pub «abs_as_f64» : ℤ → Float
 
 -- ---- optimize_two_missing (lines 218 to 347)
 
--- solve_two_vars, the loop's body at x (lines 268 to 270)
+-- solve_two_vars: what its loop runs through (lines 255 and 262 to 267)
+unfoldable pub «x_values» : ℕ → ℤ → ℕ → ℕ → List ℕ
+«x_values» «remain_hits» «remain_score» w1 w2 =
+    let «raw_x» = quotient («remain_score» -ℤ pos w2 *ℤ pos «remain_hits») (pos w1 -ℤ pos w2) in
+    0 ∷ min «remain_hits» (floorU32 «raw_x») ∷ min «remain_hits» (ceilU32 «raw_x») ∷ «remain_hits» ∷ []
+
+-- the loop's body at x (lines 268 to 270)
 unfoldable pub «at_x» : ℕ → ℤ → ℕ → ℕ → ℕ → Kept Float (ℕ × ℕ)
 «at_x» «remain_hits» «remain_score» w1 w2 x =
     let y = «remain_hits» - x in
@@ -55,11 +61,9 @@ unfoldable pub «at_x» : ℕ → ℤ → ℕ → ℕ → ℕ → Kept Float (�
 unfoldable pub «solve_two_vars» : ℕ → ℤ → ℕ → ℕ → ℕ × ℕ
 «solve_two_vars» «remain_hits» «remain_score» w1 w2 =
     let half = «remain_hits» / 2 in
-    let «raw_x» = quotient («remain_score» -ℤ pos w2 *ℤ pos «remain_hits») (pos w1 -ℤ pos w2) in
-    let tries : List ℕ = 0 ∷ min «remain_hits» (floorU32 «raw_x») ∷ min «remain_hits» (ceilU32 «raw_x») ∷ «remain_hits» ∷ [] in
     let best : Kept Float (ℕ × ℕ) = record { dist = max64; result = (0, «remain_hits») } in
     cond (eqb w1 w2) (half, «remain_hits» - half)
-    (scan lt (each tries (λ x. «at_x» «remain_hits» «remain_score» w1 w2 x ∷ [])) best .result)
+    (scan lt (each («x_values» «remain_hits» «remain_score» w1 w2) (λ x. «at_x» «remain_hits» «remain_score» w1 w2 x ∷ [])) best .result)
 
 -- `result` before the arms (lines 283 to 290)
 abbrev pub «result_given» : ℕ → Option ℕ → Option ℕ → Option ℕ → Option ℕ → Option ℕ → HitResults
@@ -117,6 +121,13 @@ unfoldable pub «optimize_two_missing» : Args → Answer (List ℕ)
 
 -- ---- optimize_last_three (lines 470 to 553)
 
+-- what the loop of all three runs through (lines 527 to 532)
+unfoldable pub «n200_values» : ℕ → ℤ → List ℕ
+«n200_values» remain «target_score» =
+    let min200 = floorU32 (quotient («target_score» -ℤ pos 20 *ℤ pos remain) (pos 20)) in
+    let max200 = min remain (ceilAsU32 (quotient «target_score» (pos 40)) + 1) in
+    range min200 max200
+
 -- the loop's body at n200 (lines 533 to 542)
 unfoldable pub «at_n200» : ℕ → ℤ → ℕ → Kept Float Last
 «at_n200» remain «target_score» n200 =
@@ -156,9 +167,7 @@ unfoldable pub «optimize_last_three» : Option ℕ → Option ℕ → Option �
     record { n200 = n200; n100 = n100; n50 = n5 }
 «optimize_last_three» none none none remain «target_score» =
     let best : Kept Float Last = record { dist = max64; result = record { n200 = 0; n100 = 0; n50 = remain } } in
-    let min200 = floorU32 (quotient («target_score» -ℤ pos 20 *ℤ pos remain) (pos 20)) in
-    let max200 = min remain (ceilAsU32 (quotient «target_score» (pos 40)) + 1) in
-    scan lt (each (range min200 max200) (λ n200. «at_n200» remain «target_score» n200 ∷ [])) best .result
+    scan lt (each («n200_values» remain «target_score») (λ n200. «at_n200» remain «target_score» n200 ∷ [])) best .result
 
 -- ---- optimize_three_plus_missing (lines 351 to 467)
 
