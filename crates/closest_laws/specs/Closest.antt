@@ -1,8 +1,8 @@
 -- closest.rs, `generate_hitresults` for `Closest` where acc is given (lines 13 to 160), with the four functions below it; and
 -- document 01, closest.rs. A definition stands below those it uses, so `generate_hitresults` comes last here.
--- Floors, ceilings and roundings of quotients are those of the exact fractions, as document 01 says. `T - (..)` is 0 where the
--- Rust's difference is negative and `.max(0.0)` or a cast to u32 makes it 0; `saturating_sub` is `-`. `span` is what a loop
--- `lo..=hi` runs through: all of it in the Rust's search, which is `range`.
+-- Floors, ceilings and roundings of quotients are those of the exact fractions, as the Rust's f64s have them (crate `closest_f64`).
+-- `T - (..)` is 0 where the Rust's difference is negative and `.max(0.0)` or a cast to u32 makes it 0; `saturating_sub` is `-`.
+-- `span` is what a loop `lo..=hi` runs through: all of it in the Rust's search, which is `range`.
 use Prim.Native.Nat.{ℕ, zero, suc, _+_, _-_, _*_, _/_, min}
 use mathlib.Core.Bool.{cond}
 use mathlib.Core.List.{List, [], _∷_}
