@@ -1,170 +1,201 @@
 -- One lemma for each answer of the code's proofs, over what its calls ensure, in their order. Assumes nothing.
 use mathlib.Core.Path.{_≡_, refl, sym, ap, _∙_}
-use mathlib.Core.Bool.{Bool, true, false, cond, true≢false}
+use mathlib.Core.Bool.{Bool, true, false, cond, not}
+use mathlib.Core.List.{[], _∷_}
+use mathlib.Core.Logic.{⊎-elim}
 use mathlib.Core.Option.{Option, none, some}
-use Prim.Native.Nat.{ℕ, _+_, _-_, _*_, _/_, _≤_, _<_, min, zero-le}
-use native.Mathlib.Nat.{mul-le-mul}
+use Prim.Native.Nat.{ℕ, _+_, _-_, _*_, _≤_, _<_, min}
 use native.Mathlib.Omega.{arith}
-use borrow.Author.Tests.{eq-eqb, ne-eqb, lt-ltb, le-ltb}
+use borrow.Author.Tests.{eq-eqb, ne-eqb, lt-ltb, le-ltb, not-true, not-false}
+use types.Run.{OneOf}
+use denote.Enum.Declared.{tagOf}
 use lib.Dec.{eqb}
 use lib.Ieee.{Float}
 use Rattle.score_state.specs.declared.HitResults.{HitResults}
-use Rattle.score_state.specs.Accuracy.{Capped}
 use Rattle.score_state.specs.Points as Points
-use Rattle.score_state.specs.Points.{perfectWeight}
+use Rattle.score_state.specs.Points.{perfectWeight, standard, points, hits, countsOf}
 use Rattle.score_state.specs.Given.{or}
-use Rattle.inspect.specs.Presence.{given}
-use Rattle.inspect.specs.Inspect.{Inspect, totalHits, misses, remain}
-use Rattle.fast.specs.Fast.{ifNone, Prelim, clamped, prelim, numProvided, allProvided, used, oneMissing, numerator, targetTotal, deltaOf, Upgraded, upgrade, upgrades, leftPlace, plusLeft, addLeft, threeOrFewer, provide, withAcc, byAcc, fast}
-use Rattle.fast.proofs.Bits.{ruleOf}
+use Rattle.inspect.specs.declared.Missing.{Missing}
+use Rattle.inspect.specs.declared.Missing.the-variants.{Nothing, One, Two, ThreePlus}
+use Rattle.inspect.specs.declared.Query.{Query}
+use Rattle.inspect.specs.Presence.{has, given, lacks, lacking, missingOf}
+use Rattle.inspect.specs.Inspect.{Inspect, inspectOf, totalHits, misses, remain}
+use Rattle.inspect.proofs.Lacking.{is-nothing, is-one, is-two, is-three-plus}
+use Rattle.inspect.proofs.Missing.{the-type}
+use Rattle.fast.specs.declared.Partial.{Partial}
+use Rattle.fast.specs.declared.Running.{Running}
+use Rattle.fast.specs.Fast.{ifNone, Prelim, clamped, prelim, provided, numProvided, allProvided, used, oneMissing, numerator, targetTotal, deltaOf, upgrade, upgrades, leftPlace, plusLeft, addLeft, threeOrFewer, provide, withAcc, byAcc, fast}
+use Rattle.fast.specs.Code.{prelimOf, remainOf, totalOf, upgradedOf}
 
--- ---- one count
-pub clamp-some : (h b : Bool) (n room r : ℕ) → b ≡ h → b ≡ true → r ≡ min n room → (r ≡ clamped (given h n) room) × (r ≤ room)
-unfolding clamped
-clamp-some true b n room r e t m = (m, omega arith)
-clamp-some false b n room r e t m = absurd (true≢false (sym t ∙ e))
+-- ---- a bit that was tested
+pub absent : {b h : Bool} → b ≡ h → not b ≡ true → h ≡ false
+absent {b} e t = sym e ∙ not-true b t
 
-pub clamp-none : (h b : Bool) (n room : ℕ) → b ≡ h → b ≡ false → (0 ≡ clamped (given h n) room) × (0 ≤ room)
-unfolding clamped
-clamp-none true b n room e t = absurd (true≢false (sym e ∙ t))
-clamp-none false b n room e t = (refl, zero-le)
-
-pub within-some : (h b : Bool) (n o m r : ℕ) → b ≡ h → b ≡ true → r ≡ min m n → (r ≡ min m (or (given h n) o)) × (r ≤ m)
-unfolding or
-within-some true b n o m r e t d = (d, omega arith)
-within-some false b n o m r e t d = absurd (true≢false (sym t ∙ e))
-
-pub within-none : (h b : Bool) (n o m r : ℕ) → b ≡ h → b ≡ false → r ≡ min m o → (r ≡ min m (or (given h n) o)) × (r ≤ m)
-unfolding or
-within-none true b n o m r e t d = absurd (true≢false (sym e ∙ t))
-within-none false b n o m r e t d = (d, omega arith)
-
--- a weight times a count
-pub times-le : (w n : ℕ) → w ≤ 61 → n ≤ 200_000 → w * n ≤ 12_200_000
-times-le w n h k = mul-le-mul h k
+pub present : {b h : Bool} → b ≡ h → not b ≡ false → h ≡ true
+present {b} e t = sym e ∙ not-false b t
 
 -- ---- the counts before the greedy filling
+pub clamped-is : (h : Bool) (n room : ℕ) {x r : ℕ} → x ≡ cond h n 0 → r ≡ min x room → (r ≡ clamped (given h n) room) × (r ≤ room)
+unfolding clamped
+clamped-is true n room e m = (omega arith, omega arith)
+clamped-is false n room e m = (omega arith, omega arith)
+
+abbrev Clamped : Option ℕ → ℕ → ℕ → Type 0
+Clamped n room x = (x ≡ clamped n room) × (x ≤ room)
+
 pub prelim-is
-    : (i : Inspect) (R x1 x2 x3 x4 x5 : ℕ) → x1 ≡ clamped (i .n320) R → x2 ≡ clamped (i .n300) (R - x1) → x3 ≡ clamped (i .n200) (R - x1 - x2)
-    → x4 ≡ clamped (i .n100) (R - x1 - x2 - x3) → x5 ≡ clamped (i .n50) (R - x1 - x2 - x3 - x4)
-    → _≡_ {A = Prelim} (record { n320 = x1; n300 = x2; n200 = x3; n100 = x4; n50 = x5 }) (prelim i R)
+    : (i : Inspect) (R : ℕ) {x1 x2 x3 x4 x5 a1 a2 a3 a4 a5 : ℕ} → Clamped (i .n320) R x1 → a1 ≡ R - x1 → Clamped (i .n300) a1 x2 → a2 ≡ a1 - x2
+    → Clamped (i .n200) a2 x3 → a3 ≡ a2 - x3 → Clamped (i .n100) a3 x4 → a4 ≡ a3 - x4 → Clamped (i .n50) a4 x5 → a5 ≡ a4 - x5
+    → (_≡_ {A = Prelim} (record { n320 = x1; n300 = x2; n200 = x3; n100 = x4; n50 = x5 }) (prelim i R)) × (x1 + x2 + x3 + x4 + x5 + a5 ≡ R)
 unfolding prelim
-prelim-is i R x1 x2 x3 x4 x5 e1 e2 e3 e4 e5 = rw (e5, e4, e3, e2, e1)
+prelim-is i R e1 s1 e2 s2 e3 s3 e4 s4 e5 s5 =
+    (rw (e5 .0, s4, e4 .0, s3, e3 .0, s2, e2 .0, s1, e1 .0), omega arith)
 
 pub one-is
-    : (i : Inspect) (R m : ℕ) (p : Prelim) (x1 x2 x3 x4 x5 : ℕ) → x1 ≡ ifNone (i .n320) (R - used p) (p .n320) → x2 ≡ ifNone (i .n300) (R - used p) (p .n300)
-    → x3 ≡ ifNone (i .n200) (R - used p) (p .n200) → x4 ≡ ifNone (i .n100) (R - used p) (p .n100) → x5 ≡ ifNone (i .n50) (R - used p) (p .n50)
-    → _≡_ {A = HitResults} (record { n320 = x1; n300 = x2; n200 = x3; n100 = x4; n50 = x5; misses = m }) (oneMissing i R m p)
+    : (i : Inspect) (p : Partial) {x1 x2 x3 x4 x5 : ℕ} → x1 ≡ ifNone (i .n320) (p .left .0) (p .counts .n320) → x2 ≡ ifNone (i .n300) (p .left .0) (p .counts .n300)
+    → x3 ≡ ifNone (i .n200) (p .left .0) (p .counts .n200) → x4 ≡ ifNone (i .n100) (p .left .0) (p .counts .n100) → x5 ≡ ifNone (i .n50) (p .left .0) (p .counts .n50)
+    → _≡_ {A = HitResults}
+    (record { n320 = x1; n300 = x2; n200 = x3; n100 = x4; n50 = x5; misses = p .counts .misses })
+    (oneMissing i (remainOf p) (p .counts .misses) (prelimOf (p .counts)))
 unfolding oneMissing
-one-is i R m p x1 x2 x3 x4 x5 e1 e2 e3 e4 e5 = rw (e1, e2, e3, e4, e5)
+one-is i p e1 e2 e3 e4 e5 =
+    let l : remainOf p - used (prelimOf (p .counts)) ≡ p .left .0 = omega arith in
+    rw (l, e1, e2, e3, e4, e5)
 
 -- ---- the greedy filling
+pub numerator-is : (classic : Bool) (c : HitResults) → points (standard classic) (countsOf c) ≡ numerator (perfectWeight classic) (prelimOf c)
+unfolding points numerator
+numerator-is classic c = omega arith
+
 pub delta-is
-    : (acc : Float) (w t R : ℕ) (p : Prelim) (n x r d : ℕ) → n ≡ numerator w p → x ≡ targetTotal acc (w * t) n
-    → r ≡ R - p .n320 - p .n300 - p .n200 - p .n100 → d ≡ x - 10 * (r - p .n50) → d ≡ deltaOf acc w t R p
+    : (acc : Float) (w t : ℕ) (p : Partial) {d n x b r : ℕ} → n ≡ numerator w (prelimOf (p .counts)) → d ≡ w * t → x ≡ targetTotal acc d n
+    → b ≡ 10 * p .left .0 → r ≡ x - b → r ≡ deltaOf acc w t (remainOf p) (prelimOf (p .counts))
 unfolding deltaOf
-delta-is acc w t R p n x r d en ex er ed = ed ∙ rw (er, ex, en)
-
-pub upgrade-is
-    : (o : Option ℕ) (room inc delta count paid rest : ℕ) → count ≡ min room (or o (delta / inc)) → paid ≡ delta - inc * count → rest ≡ ifNone o paid delta
-    → _≡_ {A = Upgraded} (record { count = count; delta = rest }) (upgrade o room inc delta)
-unfolding upgrade
-upgrade-is o room inc delta count paid rest e1 e2 e3 = rw (e3, e2, e1)
-
-pub upgrades-is
-    : (i : Inspect) (w R m : ℕ) (p : Prelim) (delta r1 r2 r3 r4 r5 n : ℕ) (u1 u2 u3 u4 : Upgraded)
-    → r1 ≡ R - p .n300 - p .n200 - p .n100 - p .n50 → u1 ≡ upgrade (i .n320) r1 (w - 10) delta
-    → r2 ≡ R - u1 .count - p .n200 - p .n100 - p .n50 → u2 ≡ upgrade (i .n300) r2 50 (u1 .delta)
-    → r3 ≡ R - u1 .count - u2 .count - p .n100 - p .n50 → u3 ≡ upgrade (i .n200) r3 30 (u2 .delta)
-    → r4 ≡ R - u1 .count - u2 .count - u3 .count - p .n50 → u4 ≡ upgrade (i .n100) r4 10 (u3 .delta)
-    → r5 ≡ R - u1 .count - u2 .count - u3 .count - u4 .count → n ≡ min r5 (or (i .n50) R)
-    → _≡_ {A = HitResults}
-    (record { n320 = u1 .count; n300 = u2 .count; n200 = u3 .count; n100 = u4 .count; n50 = n; misses = m })
-    (upgrades i w R m p delta)
-unfolding upgrades
-upgrades-is i w R m p delta r1 r2 r3 r4 r5 n u1 u2 u3 u4 a1 e1 a2 e2 a3 e3 a4 e4 a5 e5 = rw (e5, a5, e4, a4, e3, a3, e2, a2, e1, a1)
-
--- five counts within R hits, and misses
-pub capped-is
-    : (a b c d e m r R : ℕ) → r + a + b + c + d ≡ R → e ≤ r → R ≤ 200_000 → m ≤ 200_000
-    → Capped (record { n320 = a; n300 = b; n200 = c; n100 = d; n50 = e; misses = m })
-capped-is a b c d e m r R h k l o =
-    record { n320 = omega arith; n300 = omega arith; n200 = omega arith; n100 = omega arith; n50 = omega arith; misses = omega arith }
-
--- ---- what is left
-pub left-added
-    : (i : Inspect) (t s place left : ℕ) (r x : HitResults) → s ≡ Points.totalHits r → s < t → left ≡ t - s → place ≡ leftPlace (i .priority) i
-    → x ≡ plusLeft place left r → x ≡ addLeft i t r
-unfolding addLeft
-left-added i t s place left r x es l el ep ex =
-    let z : Points.totalHits r < t = omega arith in
-    ex ∙ rw (lt-ltb (Points.totalHits r) t z, el, ep, es)
-
-pub none-left : (i : Inspect) (t s : ℕ) (r : HitResults) → s ≡ Points.totalHits r → t ≤ s → r ≡ addLeft i t r
-unfolding addLeft
-none-left i t s r es l = let z : t ≤ Points.totalHits r = omega arith in rw (le-ltb (Points.totalHits r) t z)
-
-pub three-is
-    : (acc : Float) (i : Inspect) (t R m : ℕ) (p : Prelim) (s w d : ℕ) (u x : HitResults) → s ≡ t → w ≡ perfectWeight (i .classic)
-    → d ≡ deltaOf acc w s R p → u ≡ upgrades i w R m p d → x ≡ addLeft i s u → x ≡ threeOrFewer acc i t R m p
-unfolding threeOrFewer
-three-is acc i t R m p s w d u x es ew ed eu ex = ex ∙ rw (eu, ed, ew, es)
+delta-is acc w t p en ed ex eb er =
+    let c = p .counts in
+    let l : remainOf p - c .n320 - c .n300 - c .n200 - c .n100 - c .n50 ≡ p .left .0 = omega arith in
+    er ∙ rw (ex, ed, en, eb, l)
 
 pub perfect-least : (classic : Bool) → 60 ≤ perfectWeight classic
 perfect-least true = omega arith
 perfect-least false = omega arith
 
+-- n50 takes what it is given, or the whole room
+rest-is : (h : Bool) (n R room x : ℕ) → room ≤ R → x ≡ ifNone (given h n) room n → min room x ≡ min room (or (given h n) R)
+unfolding ifNone or
+rest-is true n R room x l e = omega arith
+rest-is false n R room x l e = omega arith
+
+-- what four numbers leave
+four-off : (R a b c d r : ℕ) → a + b + c + d + r ≡ R → R - a - b - c - d ≡ r
+four-off R a b c d r e = omega arith
+
+-- one judgement's count, and what it leaves of its room
+abbrev Step : Option ℕ → ℕ → ℕ → ℕ → Running → Type 0
+Step n room increase delta u = (upgradedOf u ≡ upgrade n room increase delta) × (u .count .0 + u .left .0 ≡ room)
+
+pub upgrades-is
+    : (q : Query) (w delta : ℕ) (p : Partial) (u1 u2 u3 u4 : Running) {room x n l : ℕ}
+    → Step ((inspectOf q) .n320) (p .left .0 + p .counts .n320) (w - 10) delta u1 → Step ((inspectOf q) .n300) (u1 .left .0 + p .counts .n300) 50 (u1 .delta .0) u2
+    → Step ((inspectOf q) .n200) (u2 .left .0 + p .counts .n200) 30 (u2 .delta .0) u3 → Step ((inspectOf q) .n100) (u3 .left .0 + p .counts .n100) 10 (u3 .delta .0) u4
+    → room ≡ u4 .left .0 + p .counts .n50 → x ≡ ifNone ((inspectOf q) .n50) room (q .n50) → n ≡ min room x → l ≡ room - n
+    → (_≡_ {A = HitResults}
+    (record { n320 = u1 .count .0; n300 = u2 .count .0; n200 = u3 .count .0; n100 = u4 .count .0; n50 = n; misses = p .counts .misses })
+    (upgrades (inspectOf q) w (remainOf p) (p .counts .misses) (prelimOf (p .counts)) delta))
+    × (u1 .count .0 + u2 .count .0 + u3 .count .0 + u4 .count .0 + n + l ≡ remainOf p)
+unfolding upgrades
+upgrades-is q w delta p u1 u2 u3 u4 {room} {x} {n} {l} e1 e2 e3 e4 er ex en el =
+    let R = remainOf p in
+    let c = p .counts in
+    let all : u1 .count .0 + u2 .count .0 + u3 .count .0 + u4 .count .0 + n + l ≡ R = omega arith in
+    let r1 = four-off R (c .n300) (c .n200) (c .n100) (c .n50) (p .left .0 + c .n320) (omega arith) in
+    let r2 = four-off R (u1 .count .0) (c .n200) (c .n100) (c .n50) (u1 .left .0 + c .n300) (omega arith) in
+    let r3 = four-off R (u1 .count .0) (u2 .count .0) (c .n100) (c .n50) (u2 .left .0 + c .n200) (omega arith) in
+    let r4 = four-off R (u1 .count .0) (u2 .count .0) (u3 .count .0) (c .n50) (u3 .left .0 + c .n100) (omega arith) in
+    let r5 = four-off R (u1 .count .0) (u2 .count .0) (u3 .count .0) (u4 .count .0) room (omega arith) in
+    let rest = rest-is (has (q .presence) 16) (q .n50) R room x (omega arith) ex in
+    (rw (r1, ← e1 .0, r2, ← e2 .0, r3, ← e3 .0, r4, ← e4 .0, r5, en, rest), all)
+
+-- ---- what is left
+pub none-left : (i : Inspect) (p : Partial) → p .left .0 ≡ 0 → p .counts ≡ addLeft i (totalOf p) (p .counts)
+unfolding addLeft hits
+none-left i p z =
+    let l : totalOf p ≤ Points.totalHits (p .counts) = omega arith in
+    rw (le-ltb (Points.totalHits (p .counts)) (totalOf p) l)
+
+pub left-added
+    : (i : Inspect) (p : Partial) {place : ℕ} {x : HitResults} → (p .left .0 ≡ 0 → ⊥) → place ≡ leftPlace (i .priority) i
+    → x ≡ plusLeft place (p .left .0) (p .counts) → x ≡ addLeft i (totalOf p) (p .counts)
+unfolding addLeft hits
+left-added i p z ep ex =
+    let l : Points.totalHits (p .counts) < totalOf p = omega arith in
+    let d : totalOf p - Points.totalHits (p .counts) ≡ p .left .0 = omega arith in
+    ex ∙ rw (lt-ltb (Points.totalHits (p .counts)) (totalOf p) l, d, ep)
+
+-- ---- how many are provided: those that are not missing
+provided-lacks : (h : Bool) (n : ℕ) → provided (given h n) + lacks h ≡ 1
+unfolding provided
+provided-lacks true n = refl
+provided-lacks false n = refl
+
+abbrev providedOf : Inspect → ℕ
+providedOf i = numProvided (i .n320) (i .n300) (i .n200) (i .n100) (i .n50)
+
+provided-lacking : (q : Query) → providedOf (inspectOf q) + lacking (q .presence) ≡ 5
+unfolding numProvided lacking
+provided-lacking q =
+    let p = q .presence in
+    omega (
+      arith,
+      provided-lacks (has p 1) (q .n320),
+      provided-lacks (has p 2) (q .n300),
+      provided-lacks (has p 4) (q .n200),
+      provided-lacks (has p 8) (q .n100),
+      provided-lacks (has p 16) (q .n50),
+    )
+
+two-or-more : (m : Missing) (n : ℕ) → m ≡ missingOf n → OneOf (2 ∷ 3 ∷ []) (tagOf the-type m) → 2 ≤ n
+two-or-more Nothing n e o = ⊎-elim (λ z. omega arith) (λ z. omega arith) o
+two-or-more One n e o = ⊎-elim (λ z. omega arith) (λ z. omega arith) o
+two-or-more Two n e o = omega (arith, is-two n e)
+two-or-more ThreePlus n e o = omega (arith, is-three-plus n e)
+
 -- ---- the whole
 pub zero-is
-    : (acc : Float) (i : Inspect) (r m : ℕ) → r ≡ remain i → r ≡ 0 → m ≡ misses i
+    : (acc : Float) (i : Inspect) {r m : ℕ} → r ≡ remain i → eqb r 0 ≡ true → m ≡ misses i
     → _≡_ {A = HitResults} (record { n320 = 0; n300 = 0; n200 = 0; n100 = 0; n50 = 0; misses = m }) (withAcc acc i)
 unfolding withAcc
-zero-is acc i r m er z em = rw (eq-eqb (remain i) 0 (sym er ∙ z), em)
+zero-is acc i er z em = rw (← er, z, em)
 
-some-is : (acc : Float) (i : Inspect) (r : ℕ) → r ≡ remain i → (r ≡ 0 → ⊥) → provide acc i ≡ withAcc acc i
-unfolding withAcc
-some-is acc i r er n = rw (ne-eqb (remain i) 0 (λ (z : remain i ≡ 0). n (er ∙ z)))
+module _
+    (acc : Float) (q : Query) (p : Partial) {r m : ℕ} (er : r ≡ remain (inspectOf q)) (z : eqb r 0 ≡ false) (em : m ≡ misses (inspectOf q))
+    (e : (prelimOf (p .counts) ≡ prelim (inspectOf q) r) × (remainOf p ≡ r) × (p .counts .misses ≡ m)) where
+  abbrev i : Inspect
+  i = inspectOf q
 
--- by the rule's number, which of three it is
-first-of : (x y : Bool) (a b c : HitResults) → _≡_ {A = ℕ} 5 (cond x 5 (cond y 4 3)) → a ≡ cond x a (cond y b c)
-first-of true y a b c e = refl
-first-of false true a b c e = let z : _≡_ {A = ℕ} 5 4 = e in absurd (omega arith)
-first-of false false a b c e = let z : _≡_ {A = ℕ} 5 3 = e in absurd (omega arith)
+  some-is : provide acc i ≡ withAcc acc i
+  unfolding withAcc
+  some-is = rw (← er, z)
 
-second-of : (x y : Bool) (a b c : HitResults) → _≡_ {A = ℕ} 4 (cond x 5 (cond y 4 3)) → b ≡ cond x a (cond y b c)
-second-of true y a b c e = let z : _≡_ {A = ℕ} 4 5 = e in absurd (omega arith)
-second-of false true a b c e = refl
-second-of false false a b c e = let z : _≡_ {A = ℕ} 4 3 = e in absurd (omega arith)
+  pub all-is : Nothing ≡ missingOf (lacking (q .presence)) → p .counts ≡ withAcc acc i
+  unfolding provide allProvided
+  all-is k =
+      let n : providedOf i ≡ 5 = omega (arith, provided-lacking q, is-nothing (lacking (q .presence)) k) in
+      rw (← some-is, eq-eqb (providedOf i) 5 n, ← er, ← em, ← e .0, ← e .2)
 
-third-of : (x y : Bool) (a b c : HitResults) → _≡_ {A = ℕ} 3 (cond x 5 (cond y 4 3)) → c ≡ cond x a (cond y b c)
-third-of true y a b c e = let z : _≡_ {A = ℕ} 3 5 = e in absurd (omega arith)
-third-of false true a b c e = let z : _≡_ {A = ℕ} 3 4 = e in absurd (omega arith)
-third-of false false a b c e = refl
-
-module _ (acc : Float) (i : Inspect) (r m : ℕ) (p : Prelim) (er : r ≡ remain i) (n : r ≡ 0 → ⊥) (em : m ≡ misses i) (ep : p ≡ prelim i r) where
-  abbrev given-all : HitResults
-  given-all = allProvided (prelim i (remain i)) (misses i)
-
-  abbrev given-four : HitResults
-  given-four = oneMissing i (remain i) (misses i) (prelim i (remain i))
-
-  abbrev given-few : HitResults
-  given-few = threeOrFewer acc i (totalHits i) (remain i) (misses i) (prelim i (remain i))
-
-  abbrev count : ℕ
-  count = numProvided (i .n320) (i .n300) (i .n200) (i .n100) (i .n50)
-
-  pub all-is : (x : HitResults) → 5 ≡ ruleOf i → x ≡ allProvided p m → x ≡ withAcc acc i
+  pub four-is : {x : HitResults} → One ≡ missingOf (lacking (q .presence)) → x ≡ oneMissing i (remainOf p) (p .counts .misses) (prelimOf (p .counts)) → x ≡ withAcc acc i
   unfolding provide
-  all-is x k e = e ∙ rw (ep, er, em) (first-of (eqb count 5) (eqb count 4) given-all given-four given-few k ∙ some-is acc i r er n)
+  four-is k h =
+      let n : providedOf i ≡ 4 = omega (arith, provided-lacking q, is-one (lacking (q .presence)) k) in
+      h ∙ rw (← some-is, ne-eqb (providedOf i) 5 (λ z. omega arith), eq-eqb (providedOf i) 4 n, e .1, e .2, e .0, er, em)
 
-  pub four-is : (x : HitResults) → 4 ≡ ruleOf i → x ≡ oneMissing i r m p → x ≡ withAcc acc i
+  pub few-is
+      : {x : HitResults} (k : Missing) → k ≡ missingOf (lacking (q .presence)) → OneOf (2 ∷ 3 ∷ []) (tagOf the-type k)
+      → x ≡ threeOrFewer acc i (totalHits i) (remainOf p) (p .counts .misses) (prelimOf (p .counts)) → x ≡ withAcc acc i
   unfolding provide
-  four-is x k e = e ∙ rw (ep, er, em) (second-of (eqb count 5) (eqb count 4) given-all given-four given-few k ∙ some-is acc i r er n)
-
-  pub few-is : (x : HitResults) → 3 ≡ ruleOf i → x ≡ threeOrFewer acc i (totalHits i) r m p → x ≡ withAcc acc i
-  unfolding provide
-  few-is x k e = e ∙ rw (ep, er, em) (third-of (eqb count 5) (eqb count 4) given-all given-four given-few k ∙ some-is acc i r er n)
+  few-is k ek o h =
+      let n : providedOf i ≤ 3 = omega (arith, provided-lacking q, two-or-more k (lacking (q .presence)) ek o) in
+      h ∙ rw (← some-is, ne-eqb (providedOf i) 5 (λ z. omega arith), ne-eqb (providedOf i) 4 (λ z. omega arith), e .1, e .2, e .0, er, em)
 
 pub fast-given : (i : Inspect) (acc : Float) (x : HitResults) → i .acc ≡ some acc → x ≡ withAcc acc i → x ≡ fast i
 unfolding fast byAcc

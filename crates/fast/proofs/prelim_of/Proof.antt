@@ -1,5 +1,5 @@
 -- `fast::prelim_of` meets its contract. Assumes nothing.
-use native.Mathlib.Omega.{arith}
+use mathlib.Core.Path.{refl}
 use Rattle.inspect.specs.Inspect.{inspectOf}
 use Rattle.fast.proofs.Steps.{prelim-is}
 use borrow.Author.Needs.{needs}
@@ -9,73 +9,57 @@ use Rattle.fast.proofs.prelim_of.Tie as tie
 clamp-requires : tie.Need-clamp-requires
 clamp-requires c κs = search needs
 
-sub-clamp : tie.Need-sub-clamp
-sub-clamp c = search needs
+minus-requires : tie.Need-minus-requires
+minus-requires c κs = search needs
 
 clamp-requires-2 : tie.Need-clamp-requires-2
 clamp-requires-2 c κs = search needs
 
-sub-clamp-2 : tie.Need-sub-clamp-2
-sub-clamp-2 c = search needs
-
-sub-clamp-3 : tie.Need-sub-clamp-3
-sub-clamp-3 c = search needs
+minus-requires-2 : tie.Need-minus-requires-2
+minus-requires-2 c κs = search needs
 
 clamp-requires-3 : tie.Need-clamp-requires-3
 clamp-requires-3 c κs = search needs
 
-sub-clamp-4 : tie.Need-sub-clamp-4
-sub-clamp-4 c = search needs
-
-sub-clamp-5 : tie.Need-sub-clamp-5
-sub-clamp-5 c = search needs
-
-sub-clamp-6 : tie.Need-sub-clamp-6
-sub-clamp-6 c = search needs
+minus-requires-3 : tie.Need-minus-requires-3
+minus-requires-3 c κs = search needs
 
 clamp-requires-4 : tie.Need-clamp-requires-4
 clamp-requires-4 c κs = search needs
 
-sub-clamp-7 : tie.Need-sub-clamp-7
-sub-clamp-7 c = search needs
-
-sub-clamp-8 : tie.Need-sub-clamp-8
-sub-clamp-8 c = search needs
-
-sub-clamp-9 : tie.Need-sub-clamp-9
-sub-clamp-9 c = search needs
-
-sub-clamp-10 : tie.Need-sub-clamp-10
-sub-clamp-10 c = search needs
+minus-requires-4 : tie.Need-minus-requires-4
+minus-requires-4 c κs = search needs
 
 clamp-requires-5 : tie.Need-clamp-requires-5
 clamp-requires-5 c κs = search needs
 
+of-requires : tie.Need-of-requires
+of-requires c κs = search needs
+
+minus-requires-5 : tie.Need-minus-requires-5
+minus-requires-5 c κs = search needs
+
 returns : tie.Need-returns
 returns c =
-    let x = c .before .before .before .before .before .before .before .before .before .args in (
-      prelim-is (inspectOf (x .q)) (x .remain .0) (c .before .before .before .before .before .before .before .before .clamp .result) (c .before .before .before .before .before .before .clamp2 .result) (c .before .before .before .before .clamp3 .result) (c .before .before .clamp4 .result) (c .clamp5 .result)
-          (c .before .before .before .before .before .before .before .before .clamp .ensures .0) (c .before .before .before .before .before .before .clamp2 .ensures .0) (c .before .before .before .before .clamp3 .ensures .0) (c .before .before .clamp4 .ensures .0) (c .clamp5 .ensures .0),
-      omega arith,
-    )
+    let x = c .before .before .before .before .before .before .before .before .before .before .before .args in
+    let e =
+    prelim-is (inspectOf (x .q)) (x .remain .0) (c .before .before .before .before .before .before .before .before .before .before .clamp .ensures) (c .before .before .before .before .before .before .before .before .before .minus .ensures) (c .before .before .before .before .before .before .before .before .clamp2 .ensures) (c .before .before .before .before .before .before .before .minus2 .ensures)
+    (c .before .before .before .before .before .before .clamp3 .ensures) (c .before .before .before .before .before .minus3 .ensures) (c .before .before .before .before .clamp4 .ensures) (c .before .before .before .minus4 .ensures) (c .before .before .clamp5 .ensures) (c .minus5 .ensures) in
+    rw (c .before .of .ensures) (e .0, e .1, refl)
 
 pub prelim-of-spec : {M : Type 1} → statement M
 prelim-of-spec =
     tie.close
     (tie.spec
     clamp-requires
-    sub-clamp
+    minus-requires
     clamp-requires-2
-    sub-clamp-2
-    sub-clamp-3
+    minus-requires-2
     clamp-requires-3
-    sub-clamp-4
-    sub-clamp-5
-    sub-clamp-6
+    minus-requires-3
     clamp-requires-4
-    sub-clamp-7
-    sub-clamp-8
-    sub-clamp-9
-    sub-clamp-10
+    minus-requires-4
     clamp-requires-5
+    of-requires
+    minus-requires-5
     returns)

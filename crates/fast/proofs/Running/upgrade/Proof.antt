@@ -1,42 +1,63 @@
 -- `fast::Running::upgrade` meets its contract. Assumes nothing.
 use native.Mathlib.Omega.{arith}
-use native.Mathlib.Nat.{mul-le-mul, le-trans}
-use Rattle.inspect.specs.Presence.{has, given}
-use Rattle.fast.proofs.Steps.{upgrade-is}
+use native.Mathlib.Nat.{mul-le-mul}
+use Prim.Native.Nat.{_≤_}
+use Rattle.score_state.specs.Limits.{mostHits}
+use Rattle.score_state.specs.Given.{or}
+use Rattle.fast.specs.Fast.{ifNone, upgrade}
 use borrow.Author.Needs.{needs}
 use Rattle.fast.proofs.Running.upgrade.Statement.{statement}
 use Rattle.fast.proofs.Running.upgrade.Tie as tie
 
-div-count-within : tie.Need-div-count-within
-div-count-within c = search needs
+plus-requires : tie.Need-plus-requires
+plus-requires c κs = search needs
 
-count-within-requires : tie.Need-count-within-requires
-count-within-requires c κs = search needs
+is-given-requires : tie.Need-is-given-requires
+is-given-requires c κs = search needs
 
-mul-saturating-sub : tie.Need-mul-saturating-sub
-mul-saturating-sub c = omega (arith, mul-le-mul (c .before .before .before .pre .0 .1 .1) (le-trans (c .count-within .ensures .1) (c .before .before .before .pre .1)))
+least-requires : tie.Need-least-requires
+least-requires c κs = search needs
+
+minus-requires : tie.Need-minus-requires
+minus-requires c κs = search needs
+
+steps-requires : tie.Need-steps-requires
+steps-requires c κs = search needs
+
+least-requires-2 : tie.Need-least-requires-2
+least-requires-2 c κs = search needs
+
+times-requires : tie.Need-times-requires
+times-requires c κs =
+    let l : c .least2 .result .0 ≤ mostHits = omega arith in
+    omega (arith, mul-le-mul (c .before .before .before .before .before .before .pre .0 .1 .1) l)
 
 saturating-sub-requires : tie.Need-saturating-sub-requires
 saturating-sub-requires c κs = search needs
 
-if-none-requires : tie.Need-if-none-requires
-if-none-requires c κs = search needs
+minus-requires-2 : tie.Need-minus-requires-2
+minus-requires-2 c κs = search needs
 
 returns : tie.Need-returns
-returns c =
-    let x = c .before .before .before .before .before .args in (
-      upgrade-is (given (has (x .presence) (x .place)) (x .n)) (x .most) (x .increase) (x .self .delta .0) (c .before .before .count-within .result) (c .before .saturating-sub .result) (c .if-none .result)
-          (c .before .before .count-within .ensures .0) (c .before .saturating-sub .ensures) (c .if-none .ensures (x .n)),
-      c .before .before .count-within .ensures .1,
-    )
+unfolding upgrade or ifNone
+returns c = (rw (c .before .least .ensures, c .before .before .before .before .plus .ensures, ← c .before .before .before .is-given .ensures, c .before .before .if1 .taken), omega arith)
+
+returns-2 : tie.Need-returns-2
+unfolding upgrade or ifNone
+returns-2 c = (rw (c .before .saturating-sub .ensures, c .before .before .times .ensures, c .before .before .before .least2 .ensures, c .before .before .before .before .steps .ensures .0, c .before .before .before .before .before .before .before .plus .ensures, ← c .before .before .before .before .before .before .is-given .ensures, c .before .before .before .before .before .if1 .left), omega arith)
 
 pub upgrade-spec : {M : Type 1} → statement M
 upgrade-spec =
     tie.close
     (tie.spec
-    div-count-within
-    count-within-requires
-    mul-saturating-sub
+    plus-requires
+    is-given-requires
+    least-requires
+    minus-requires
+    steps-requires
+    least-requires-2
+    times-requires
     saturating-sub-requires
-    if-none-requires
-    returns)
+    minus-requires-2
+    returns
+    returns-2)
