@@ -1,5 +1,5 @@
 -- optimize_two_missing: with exactly two counts missing no split of them is nearer to the target. Assumes nothing.
-use Prim.Native.Nat.{ℕ, zero, suc, _+_, _-_, _*_, _/_, _<_, _≤_, min}
+use Prim.Native.Nat.{ℕ, suc, _+_, _-_, _*_, _/_, _<_, _≤_, min}
 use mathlib.Core.Path.{_≡_, refl, sym, ap, _∙_, subst}
 use mathlib.Core.Bool.{Bool, false, cond}
 use mathlib.Core.Option.{Option, none, some}
@@ -8,7 +8,6 @@ use native.Mathlib.Nat.{zero-mul, mul-add, add-mul, mul-comm, mul-le-mul-left, m
 use native.Mathlib.Decide.{decLe}
 use native.Mathlib.Omega.{arith}
 use borrow.Author.Tests.{ltb-false, eq-eqb, ne-eqb}
-use lib.Dec.{ltb, eqb}
 use lib.ListN.{length}
 use Rattle.score_state.specs.Points.{hits, points, gap, countsOf}
 use Rattle.score_state.specs.Given.{or, missing, givenHits, givenPoints, fill}
@@ -124,7 +123,7 @@ module _ (w1 w2 T h P : ℕ) where
   unfolding solveTwo splitAt each
   solved-apart l = ap (λ (b : Bool). cond b (h / 2 ∷ (h - h / 2) ∷ []) (found .result)) (ne-eqb w1 w2 (λ (z : w1 ≡ w2). omega arith)) ∙ ap (λ (k : Kept (Option ℕ) (List ℕ)). k .result) (found-split .2)
 
-  solved-alike : w1 ≡ w2 → solveTwo w1 w2 T h P ≡ h / 2 ∷ (h - h / 2) ∷ []
+  pub solved-alike : w1 ≡ w2 → solveTwo w1 w2 T h P ≡ h / 2 ∷ (h - h / 2) ∷ []
   unfolding solveTwo
   solved-alike e = rw (eq-eqb w1 w2 e)
 

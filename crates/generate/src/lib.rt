@@ -30,7 +30,7 @@ fn closest_counts(q: Query, acc: f64) -> Generated
     requires { ⌜ T (Ieee.le zero64 acc) ⌝ ∗ ⌜ T (Ieee.le acc one64) ⌝ }
     ensures { λ r. ⌜ generatedOf r ≡ untried (closestAtF64 (inspectOf q) acc) ⌝ }
 {
-    match closest::closest_at(q, acc) {
+    match closest::generate_hitresults(q, acc) {
         Closest::Counts(counts) => Generated::Counts(counts, 0),
         Closest::Overfull => Generated::Refused(12),
     }

@@ -1,40 +1,41 @@
--- `closest::accuracy_distance` meets its contract. Assumes nothing.
-use Prim.Native.Nat.{_+_}
-use mathlib.Core.Path.{refl}
+-- `closest::accuracy_distance`: one division each, and their distance. Assumes nothing.
 use native.Mathlib.Nat.{mul-le-mul-right}
 use native.Mathlib.Omega.{arith}
-use Rattle.closest_laws.proofs.Search.{dist-is}
-use Rattle.closest.specs.Code.{playView}
+use borrow.Author.Needs.{needs}
+use Rattle.closest_laws.specs.Closest.{tryAt}
 use Rattle.closest.proofs.accuracy_distance.Statement.{statement}
 use Rattle.closest.proofs.accuracy_distance.Tie as tie
 
 accuracy-of-requires : tie.Need-accuracy-of-requires
-accuracy-of-requires c κs = c .before .before .before .before .pre .1
+accuracy-of-requires c κs = search needs
 
-add-whole : tie.Need-add-whole
-add-whole c = omega (arith, c .before .before .before .before .before .before .before .pre .0 .hits)
+as-f64-requires : tie.Need-as-f64-requires
+as-f64-requires c κs = search needs
 
-mul-whole : tie.Need-mul-whole
-mul-whole c =
-    let p = c .before .before .before .before .before .before .before .before .args .play in
-    omega (arith, mul-le-mul-right (p .remain .0 + p .counts .misses) (c .before .before .before .before .before .before .before .before .pre .0 .top), c .before .before .before .before .before .before .before .before .pre .0 .hits)
+plus-requires : tie.Need-plus-requires
+plus-requires c κs = search needs
 
-ratio-of-requires : tie.Need-ratio-of-requires
-ratio-of-requires c κs = tt
+times-requires : tie.Need-times-requires
+times-requires c κs = omega (arith, mul-le-mul-right (c .plus .result .0) (c .before .before .before .before .pre .0 .top))
+
+as-f64-requires-2 : tie.Need-as-f64-requires-2
+as-f64-requires-2 c κs = search needs
 
 distance-of-requires : tie.Need-distance-of-requires
-distance-of-requires c κs = tt
+distance-of-requires c κs = search needs
 
 returns : tie.Need-returns
-returns c = dist-is (playView (c .before .before .before .before .before .before .before .before .before .before .args .play)) (c .before .before .before .before .before .before .before .before .before .before .args .result) _ (c .before .before .before .before .before .accuracy-of .result) (c .before .ratio-of .result) (c .distance-of .result) refl (c .before .before .before .before .before .accuracy-of .ensures) (c .before .ratio-of .ensures) (c .distance-of .ensures)
+unfolding tryAt
+returns c = cc
 
 pub accuracy-distance-spec : {M : Type 1} → statement M
 accuracy-distance-spec =
     tie.close
     (tie.spec
     accuracy-of-requires
-    add-whole
-    mul-whole
-    ratio-of-requires
+    as-f64-requires
+    plus-requires
+    times-requires
+    as-f64-requires-2
     distance-of-requires
     returns)

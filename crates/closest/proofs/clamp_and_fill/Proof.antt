@@ -1,67 +1,74 @@
--- `closest::clamp_and_fill` meets its contract. Assumes nothing.
-use mathlib.Core.Path.{refl}
-use native.Mathlib.Nat.{le-trans, le-of-eq, min-le-right}
-use Rattle.closest_laws.proofs.Fills.{clamp-is}
+-- `closest::clamp_and_fill`, step by step. Assumes nothing.
+use mathlib.Core.Path.{refl, _∙_}
+use mathlib.Core.List.{[], _∷_}
+use native.Mathlib.Omega.{arith}
+use borrow.Author.Needs.{needs}
+use Rattle.closest_laws.proofs.Fills.{fill-zero, clamp-is}
 use Rattle.closest.specs.Code.{playView}
 use Rattle.closest.proofs.clamp_and_fill.Statement.{statement}
 use Rattle.closest.proofs.clamp_and_fill.Tie as tie
 
 least-requires : tie.Need-least-requires
-least-requires c κs = tt
+least-requires c κs = search needs
 
-sub-after320 : tie.Need-sub-after320
-sub-after320 c = le-trans (le-of-eq (c .before .least .ensures)) (min-le-right _ _)
+minus-requires : tie.Need-minus-requires
+minus-requires c κs = search needs
 
 least-requires-2 : tie.Need-least-requires-2
-least-requires-2 c κs = tt
+least-requires-2 c κs = search needs
 
-sub-after300 : tie.Need-sub-after300
-sub-after300 c = le-trans (le-of-eq (c .least2 .ensures)) (min-le-right _ _)
+minus-requires-2 : tie.Need-minus-requires-2
+minus-requires-2 c κs = search needs
 
 least-requires-3 : tie.Need-least-requires-3
-least-requires-3 c κs = tt
+least-requires-3 c κs = search needs
 
-sub-after200 : tie.Need-sub-after200
-sub-after200 c = le-trans (le-of-eq (c .least3 .ensures)) (min-le-right _ _)
+minus-requires-3 : tie.Need-minus-requires-3
+minus-requires-3 c κs = search needs
 
 least-requires-4 : tie.Need-least-requires-4
-least-requires-4 c κs = tt
+least-requires-4 c κs = search needs
 
-sub-after100 : tie.Need-sub-after100
-sub-after100 c = le-trans (le-of-eq (c .least4 .ensures)) (min-le-right _ _)
+minus-requires-4 : tie.Need-minus-requires-4
+minus-requires-4 c κs = omega (arith, c .least4 .ensures)
 
 least-requires-5 : tie.Need-least-requires-5
-least-requires-5 c κs = tt
+least-requires-5 c κs = search needs
 
-sub-rest : tie.Need-sub-rest
-sub-rest c = le-trans (le-of-eq (c .least5 .ensures)) (min-le-right _ _)
+minus-requires-5 : tie.Need-minus-requires-5
+minus-requires-5 c κs = omega (arith, c .least5 .ensures)
 
-fill-one-requires : tie.Need-fill-one-requires
-fill-one-requires c κs = (c .before .before .before .before .before .before .before .before .pre .0 .bits, c .before .before .before .before .before .before .before .before .pre .1)
+of-requires : tie.Need-of-requires
+of-requires c κs = search needs
+
+fill-in-requires : tie.Need-fill-in-requires
+fill-in-requires c κs = search needs
 
 returns : tie.Need-returns
 returns c =
-    let p = c .before .before .before .before .before .before .before .before .before .args .play in
-    let r = c .before .before .before .before .before .before .before .before .before .pre .0 in
+    let p = c .before .before .before .before .before .before .before .before .before .before .before .before .before .args .play in
+    let w = c .before .before .before .before .before .before .before .before .before .before .before .before .before .pre in
     clamp-is (p .presence) (p .counts .n320) (p .counts .n300) (p .counts .n200) (p .counts .n100) (p .counts .n50) (p .remain .0)
-    (r .zero320) (r .zero300) (r .zero200) (r .zero100) (r .zero50)
-    (c .before .before .before .before .before .before .least .result) (c .before .before .before .before .least2 .result) (c .before .before .before .least3 .result) (c .before .before .least4 .result) (c .before .least5 .result)
-    (c .before .before .before .before .before .before .least .ensures) (c .before .before .before .before .least2 .ensures) (c .before .before .before .least3 .ensures) (c .before .before .least4 .ensures) (c .before .least5 .ensures)
-    (playView p) (c .fill-one .result) refl refl (c .fill-one .ensures .0) (c .fill-one .ensures .1)
+    (w .zero320) (w .zero300) (w .zero200) (w .zero100) (w .zero50)
+    (c .before .before .before .before .before .before .before .before .before .before .before .least .ensures) (c .before .before .before .before .before .before .before .before .before .before .minus .ensures) (c .before .before .before .before .before .before .before .before .before .least2 .ensures) (c .before .before .before .before .before .before .before .before .minus2 .ensures) (c .before .before .before .before .before .before .before .least3 .ensures) (c .before .before .before .before .before .before .minus3 .ensures)
+    (c .before .before .before .before .before .least4 .ensures) (c .before .before .before .before .minus4 .ensures) (c .before .before .before .least5 .ensures) (c .before .before .minus5 .ensures)
+    (playView p) (c .fill-in .result) refl refl
+    (c .fill-in .ensures .0 ∙ rw (c .before .of .ensures) (fill-zero _ (c .before .before .minus5 .result .0 ∷ []))) (c .fill-in .ensures .1 ∙ rw (c .before .of .ensures))
 
 pub clamp-and-fill-spec : {M : Type 1} → statement M
 clamp-and-fill-spec =
     tie.close
     (tie.spec
     least-requires
-    sub-after320
+    minus-requires
     least-requires-2
-    sub-after300
+    minus-requires-2
     least-requires-3
-    sub-after200
+    minus-requires-3
     least-requires-4
-    sub-after100
+    minus-requires-4
     least-requires-5
-    sub-rest
-    fill-one-requires
+    minus-requires-5
+    of-requires
+    fill-in-requires
     returns)

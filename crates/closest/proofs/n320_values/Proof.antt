@@ -1,64 +1,56 @@
--- `closest::n320_values` meets its contract. Assumes nothing.
-use mathlib.Core.Path.{ap, _∙_}
-use mathlib.Core.Bool.{Bool}
+-- `closest::n320_values`, step by step. Assumes nothing.
 use native.Mathlib.Omega.{arith}
-use Rattle.inspect.specs.Presence.{given}
-use Rattle.closest_laws.proofs.Steps.{values320-is}
-use Rattle.closest.specs.Code.{playView}
+use borrow.Author.Needs.{needs}
+use Rattle.closest_laws.specs.Closest.{values320}
 use Rattle.closest.proofs.n320_values.Statement.{statement}
 use Rattle.closest.proofs.n320_values.Tie as tie
 
+is-given-requires : tie.Need-is-given-requires
+is-given-requires c κs = search needs
+
 min-space-needed-requires : tie.Need-min-space-needed-requires
-min-space-needed-requires c κs = c .before .before .before .pre
+min-space-needed-requires c κs = search needs
 
 saturating-sub-requires : tie.Need-saturating-sub-requires
-saturating-sub-requires c κs = tt
+saturating-sub-requires c κs = search needs
 
-mul-saturating-sub : tie.Need-mul-saturating-sub
-mul-saturating-sub c = omega arith
+times-requires : tie.Need-times-requires
+times-requires c κs = search needs
 
 saturating-sub-requires-2 : tie.Need-saturating-sub-requires-2
-saturating-sub-requires-2 c κs = tt
+saturating-sub-requires-2 c κs = search needs
 
-sub-lo : tie.Need-sub-lo
-sub-lo c = omega (arith, c .before .before .before .before .before .before .before .before .pre .heavy)
+sub-steps : tie.Need-sub-steps
+sub-steps c = search needs
 
-div-lo : tie.Need-div-lo
-div-lo c = omega (arith, c .before .before .before .before .before .before .before .before .pre .heavy)
+steps-requires : tie.Need-steps-requires
+steps-requires c κs = search needs
 
 div-ceil-requires : tie.Need-div-ceil-requires
-div-ceil-requires c κs = (omega (arith, c .before .before .before .before .before .before .before .before .pre .aim), omega (arith, c .before .before .before .before .before .before .before .before .pre .heavy), omega (arith, c .before .before .before .before .before .before .before .before .pre .top))
+div-ceil-requires c κs = search needs
 
-add-hi : tie.Need-add-hi
-add-hi c = omega (arith, c .div-ceil .ensures .1, c .before .before .before .before .before .before .before .before .before .pre .aim, c .before .before .before .before .before .before .before .before .before .pre .top)
-
-is-given-requires : tie.Need-is-given-requires
-is-given-requires c κs = omega arith
+plus-requires : tie.Need-plus-requires
+plus-requires c κs = search needs
 
 values-requires : tie.Need-values-requires
-values-requires c κs = omega (arith, c .before .before .before .before .before .saturating-sub .ensures, c .before .before .before .before .before .before .before .before .before .before .pre .hits)
+values-requires c κs = search needs
 
 returns : tie.Need-returns
-returns c =
-    let p = c .before .before .before .before .before .before .before .before .before .before .before .args .play in (
-      c .values .ensures .0
-          ∙ values320-is (playView p) (given (c .before .is-given .result) (p .counts .n320)) (c .before .before .before .before .before .before .before .min-space-needed .result) (c .before .before .before .before .before .before .saturating-sub .result) (c .before .before .before .before .saturating-sub2 .result) (c .before .before .div-ceil .result)
-          (ap (λ (b : Bool). given b (p .counts .n320)) (c .before .is-given .ensures)) (c .before .before .before .before .before .before .before .min-space-needed .ensures) (c .before .before .before .before .before .before .saturating-sub .ensures) (c .before .before .before .before .saturating-sub2 .ensures) (c .before .before .div-ceil .ensures .0),
-      omega (arith, c .values .ensures .1, c .before .before .before .before .before .before .saturating-sub .ensures),
-    )
+unfolding values320
+returns c = (cc, omega arith)
 
 pub n320-values-spec : {M : Type 1} → statement M
 n320-values-spec =
     tie.close
     (tie.spec
+    is-given-requires
     min-space-needed-requires
     saturating-sub-requires
-    mul-saturating-sub
+    times-requires
     saturating-sub-requires-2
-    sub-lo
-    div-lo
+    sub-steps
+    steps-requires
     div-ceil-requires
-    add-hi
-    is-given-requires
+    plus-requires
     values-requires
     returns)

@@ -1,72 +1,77 @@
--- `closest::optimize_hitresults` meets its contract. Assumes nothing.
-use mathlib.Core.Path.{sym, _∙_}
-use native.Mathlib.Nat.{le-of-eq, lt-of-lt-of-le}
+-- `closest::optimize_hitresults` goes by the number of missing counts. Assumes nothing.
+use Prim.Native.Nat.{ℕ, zero, suc, _≤_}
+use mathlib.Core.Path.{_≡_, sym, ap, _∙_, subst}
+use mathlib.Core.Logic.{⊎-elim}
+use mathlib.Core.List.{[], _∷_}
 use native.Mathlib.Omega.{arith}
-use Rattle.closest_laws.specs.Presence.{lacking}
-use Rattle.closest_laws.proofs.Fills.{clamps, two-over, two-fits, three-plus}
-use Rattle.closest.specs.Code.{playView}
-use Rattle.closest.proofs.Rules.{of-clamp, of-two, of-three}
 use borrow.Author.Needs.{needs}
+use types.Run.{OneOf}
+use denote.Enum.Declared.{tagOf}
+use Rattle.inspect.specs.Presence.{lacking, missingOf}
+use Rattle.inspect.specs.declared.Missing.{Missing}
+use Rattle.inspect.proofs.Missing.{the-type}
+use Rattle.inspect.proofs.Lacking.{is-two, is-three-plus}
+use Rattle.closest_laws.specs.Closest.{byMissing}
+use Rattle.closest_laws.proofs.Fills.{clamps, three-plus}
+use Rattle.closest.specs.Code.{playView}
 use Rattle.closest.proofs.optimize_hitresults.Statement.{statement}
 use Rattle.closest.proofs.optimize_hitresults.Tie as tie
 
-rule-of-requires : tie.Need-rule-of-requires
-rule-of-requires c κs = c .pre .bits
+few : (n : ℕ) → OneOf (0 ∷ 1 ∷ []) (tagOf the-type (missingOf n)) → n ≤ 1
+few zero o = omega arith
+few (suc zero) o = omega arith
+few (suc (suc zero)) o = ⊎-elim (λ e. absurd (omega arith)) (λ e. absurd (omega arith)) o
+few (suc (suc (suc n))) o = ⊎-elim (λ e. absurd (omega arith)) (λ e. absurd (omega arith)) o
+
+two : (c : tie.After-enum-told) → lacking (c .before .before .before .args .play .presence) ≡ 2
+two c = is-two (lacking (c .before .before .before .args .play .presence)) (sym (c .enum-told .given .1) ∙ c .before .before .missing-of .ensures)
+
+three : (c : tie.After-enum-told2) → 3 ≤ lacking (c .before .before .before .args .play .presence)
+three c = is-three-plus (lacking (c .before .before .before .args .play .presence)) (sym (c .enum-told2 .given .1) ∙ c .before .before .missing-of .ensures)
+
+missing-of-requires : tie.Need-missing-of-requires
+missing-of-requires c κs = search needs
+
+clamp-and-fill-requires : tie.Need-clamp-and-fill-requires
+clamp-and-fill-requires c κs = search needs
 
 enum-told : tie.Need-enum-told
 enum-told c = search needs
 
-clamp-and-fill-requires : tie.Need-clamp-and-fill-requires
-clamp-and-fill-requires c κs = (c .before .before .before .pre, of-clamp (lacking (c .before .before .before .args .play .presence)) (sym (c .enum-told .given .1) ∙ c .before .before .rule-of .ensures))
+optimize-two-missing-requires : tie.Need-optimize-two-missing-requires
+optimize-two-missing-requires c κs = (c .before .before .before .pre, two c)
 
 enum-told-2 : tie.Need-enum-told-2
 enum-told-2 c = search needs
 
-num-provided-requires : tie.Need-num-provided-requires
-num-provided-requires c κs = c .before .before .before .before .pre
-
-optimize-two-missing-requires : tie.Need-optimize-two-missing-requires
-optimize-two-missing-requires c κs = (c .before .before .before .before .before .before .before .before .pre, of-two (lacking (c .before .before .before .before .before .before .before .before .args .play .presence)) (sym (c .before .before .before .before .before .enum-told2 .given .1) ∙ c .before .before .before .before .before .before .before .rule-of .ensures), omega (arith, c .before .before .before .num-provided .ensures, c .if1 .left))
-
-enum-told-3 : tie.Need-enum-told-3
-enum-told-3 c = search needs
-
 optimize-three-plus-missing-requires : tie.Need-optimize-three-plus-missing-requires
-optimize-three-plus-missing-requires c κs = (c .before .before .before .pre, of-three (lacking (c .before .before .before .args .play .presence)) (sym (c .enum-told3 .given .1) ∙ c .before .before .rule-of .ensures))
+optimize-three-plus-missing-requires c κs = (c .before .before .before .pre, three c)
 
 returns : tie.Need-returns
 returns c =
-    let p = c .before .before .before .before .args .play in
-    clamps (lacking (p .presence)) (playView p) (of-clamp (lacking (p .presence)) (sym (c .before .enum-told .given .1) ∙ c .before .before .before .rule-of .ensures)) (c .clamp-and-fill .result) (c .clamp-and-fill .ensures)
+    let p = c .before .before .before .args .play in
+    clamps (lacking (p .presence)) (playView p) (few (lacking (p .presence)) (subst (λ (m : Missing). OneOf (0 ∷ 1 ∷ []) (tagOf the-type m)) (c .before .before .missing-of .ensures) (c .before .match .keys1))) (c .clamp-and-fill .result) (c .clamp-and-fill .ensures)
 
 returns-2 : tie.Need-returns-2
 returns-2 c =
-    let p = c .before .before .before .before .before .before .before .before .args .play in
-    two-over (lacking (p .presence)) (playView p) (of-two (lacking (p .presence)) (sym (c .before .before .before .before .before .enum-told2 .given .1) ∙ c .before .before .before .before .before .before .before .rule-of .ensures)) (lt-of-lt-of-le (c .if1 .taken) (le-of-eq (c .before .before .before .num-provided .ensures)))
+    let p = c .before .before .before .before .args .play in
+    c .optimize-two-missing .ensures ∙ ap (λ (n : ℕ). byMissing n (playView p)) (sym (two (c .before)))
 
 returns-3 : tie.Need-returns-3
 returns-3 c =
-    let p = c .before .before .before .before .before .before .before .before .before .args .play in
-    two-fits (lacking (p .presence)) (playView p) (of-two (lacking (p .presence)) (sym (c .before .before .before .before .before .before .enum-told2 .given .1) ∙ c .before .before .before .before .before .before .before .before .rule-of .ensures)) (omega (arith, c .before .before .before .before .num-provided .ensures, c .before .if1 .left)) (c .optimize-two-missing .result) (c .optimize-two-missing .ensures)
-
-returns-4 : tie.Need-returns-4
-returns-4 c =
     let p = c .before .before .before .before .args .play in
-    three-plus (lacking (p .presence)) (playView p) (of-three (lacking (p .presence)) (sym (c .before .enum-told3 .given .1) ∙ c .before .before .before .rule-of .ensures)) (c .optimize-three-plus-missing .result) (c .optimize-three-plus-missing .ensures)
+    three-plus (lacking (p .presence)) (playView p) (three (c .before)) (c .optimize-three-plus-missing .result) (c .optimize-three-plus-missing .ensures)
 
 pub optimize-hitresults-spec : {M : Type 1} → statement M
 optimize-hitresults-spec =
     tie.close
     (tie.spec
-    rule-of-requires
-    enum-told
+    missing-of-requires
     clamp-and-fill-requires
-    enum-told-2
-    num-provided-requires
+    enum-told
     optimize-two-missing-requires
-    enum-told-3
+    enum-told-2
     optimize-three-plus-missing-requires
     returns
     returns-2
-    returns-3
-    returns-4)
+    returns-3)

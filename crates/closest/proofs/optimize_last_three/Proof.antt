@@ -1,133 +1,131 @@
--- `closest::optimize_last_three` meets its contract: at three bits that are known the definition computes. Assumes nothing.
-use mathlib.Core.Path.{_∙_}
+-- `closest::optimize_last_three`: at three bits that are known the definition computes. Assumes nothing.
+use Prim.Native.Nat.{ℕ, _/_, _%_}
+use mathlib.Core.Path.{_≡_, _∙_}
 use native.Mathlib.Omega.{arith}
-use Rattle.closest_laws.proofs.Arms.{no-bit, all-given, lacks50, lacks100, lacks200, has200, has100, has50, has-none}
+use borrow.Author.Needs.{needs}
+use lib.Dec.{eqb}
+use Rattle.inspect.specs.Presence.{given}
+use Rattle.closest_laws.specs.Loops.{firstTwo}
+use Rattle.closest_laws.specs.Closest.{optimizeLastThree}
+use Rattle.closest_laws.proofs.Arms.{arm, no-bit}
+use Rattle.closest.specs.Code.{playView}
 use Rattle.closest.proofs.optimize_last_three.Statement.{statement}
 use Rattle.closest.proofs.optimize_last_three.Tie as tie
 
-add-saturating-sub : tie.Need-add-saturating-sub
-add-saturating-sub c = omega arith
+-- what is asked for, where the last three bits are known
+known
+    : (s : tie.Start) (k : ℕ) → s .args .play .presence / 4 % 8 ≡ k
+    → optimizeLastThree firstTwo (given (eqb (k % 2) 1) (s .args .play .counts .n200)) (given (eqb (k / 2 % 2) 1) (s .args .play .counts .n100)) (given (eqb (k / 4 % 2) 1) (s .args .play .counts .n50)) (s .args .remain .0) (s .args .earned .0) (s .args .play .«target_numerator» .0)
+    ≡ optimizeLastThree firstTwo (playView (s .args .play) .n200) (playView (s .args .play) .n100) (playView (s .args .play) .n50) (s .args .remain .0) (s .args .earned .0) (s .args .play .«target_numerator» .0)
+known s k e =
+    let x = s .args in
+    arm (x .play .presence) (x .play .counts .n200) (x .play .counts .n100) (x .play .counts .n50) (x .remain .0) (x .earned .0) (x .play .«target_numerator» .0) k e
+
+plus-requires : tie.Need-plus-requires
+plus-requires c κs = search needs
 
 saturating-sub-requires : tie.Need-saturating-sub-requires
-saturating-sub-requires c κs = tt
+saturating-sub-requires c κs = search needs
 
-add-saturating-sub-2 : tie.Need-add-saturating-sub-2
-add-saturating-sub-2 c = omega arith
+plus-requires-2 : tie.Need-plus-requires-2
+plus-requires-2 c κs = search needs
 
 saturating-sub-requires-2 : tie.Need-saturating-sub-requires-2
-saturating-sub-requires-2 c κs = tt
+saturating-sub-requires-2 c κs = search needs
 
-add-saturating-sub-3 : tie.Need-add-saturating-sub-3
-add-saturating-sub-3 c = omega arith
+plus-requires-3 : tie.Need-plus-requires-3
+plus-requires-3 c κs = search needs
 
 saturating-sub-requires-3 : tie.Need-saturating-sub-requires-3
-saturating-sub-requires-3 c κs = tt
+saturating-sub-requires-3 c κs = search needs
 
-mul-base : tie.Need-mul-base
-mul-base c = omega arith
+times-requires : tie.Need-times-requires
+times-requires c κs = search needs
 
-add-base : tie.Need-add-base
-add-base c = omega arith
+plus-requires-4 : tie.Need-plus-requires-4
+plus-requires-4 c κs = search needs
 
 two-of-last-requires : tie.Need-two-of-last-requires
-two-of-last-requires c κs =
-    let l = c .before .before .before .before .before .pre .1 in
-    (l .few, omega (arith, l .low, c .before .before .before .before .before .pre .0 .few .n200), l .near, omega arith, omega arith, omega arith)
+two-of-last-requires c κs = search needs
 
-mul-base-2 : tie.Need-mul-base-2
-mul-base-2 c = omega arith
+times-requires-2 : tie.Need-times-requires-2
+times-requires-2 c κs = search needs
 
-add-base-2 : tie.Need-add-base-2
-add-base-2 c = omega arith
+plus-requires-5 : tie.Need-plus-requires-5
+plus-requires-5 c κs = search needs
 
 two-of-last-requires-2 : tie.Need-two-of-last-requires-2
-two-of-last-requires-2 c κs =
-    let l = c .before .before .before .before .before .pre .1 in
-    (l .few, omega (arith, l .low, c .before .before .before .before .before .pre .0 .few .n100), l .near, omega arith, omega arith, omega arith)
+two-of-last-requires-2 c κs = search needs
 
-mul-base-3 : tie.Need-mul-base-3
-mul-base-3 c = omega arith
+times-requires-3 : tie.Need-times-requires-3
+times-requires-3 c κs = search needs
 
-add-base-3 : tie.Need-add-base-3
-add-base-3 c = omega arith
+plus-requires-6 : tie.Need-plus-requires-6
+plus-requires-6 c κs = search needs
 
 two-of-last-requires-3 : tie.Need-two-of-last-requires-3
-two-of-last-requires-3 c κs =
-    let l = c .before .before .before .before .before .pre .1 in
-    (l .few, omega (arith, l .low, c .before .before .before .before .before .pre .0 .few .n50), l .near, omega arith, omega arith, omega arith)
+two-of-last-requires-3 c κs = search needs
 
 all-three-requires : tie.Need-all-three-requires
-all-three-requires c κs = c .before .before .before .before .pre .1
+all-three-requires c κs = search needs
 
 returns : tie.Need-returns
-returns c =
-    let x = c .before .before .before .before .args in
-    let r = x .play .counts in
-    all-given (x .play .presence) (r .n200) (r .n100) (r .n50) (x .left .0) (x .earned .0) (x .play .target .0) (c .match .keys1)
+unfolding optimizeLastThree
+returns c = known (c .before .before .before) 7 (c .match .keys1)
 
 returns-2 : tie.Need-returns-2
-returns-2 c =
-    let x = c .before .before .before .before .before .args in
-    let r = x .play .counts in
-    lacks50 (x .play .presence) (r .n200) (r .n100) (r .n50) (x .left .0) (x .earned .0) (x .play .target .0) (c .saturating-sub .result) (c .before .match .keys2) (c .saturating-sub .ensures)
+unfolding optimizeLastThree
+returns-2 c = rw (c .saturating-sub .ensures, c .before .plus .ensures) (known (c .before .before .before .before .before) 3 (c .before .before .match .keys2))
 
 returns-3 : tie.Need-returns-3
-returns-3 c =
-    let x = c .before .before .before .before .before .args in
-    let r = x .play .counts in
-    lacks100 (x .play .presence) (r .n200) (r .n100) (r .n50) (x .left .0) (x .earned .0) (x .play .target .0) (c .saturating-sub2 .result) (c .before .match .keys3) (c .saturating-sub2 .ensures)
+unfolding optimizeLastThree
+returns-3 c = rw (c .saturating-sub2 .ensures, c .before .plus2 .ensures) (known (c .before .before .before .before .before) 5 (c .before .before .match .keys3))
 
 returns-4 : tie.Need-returns-4
-returns-4 c =
-    let x = c .before .before .before .before .before .args in
-    let r = x .play .counts in
-    lacks200 (x .play .presence) (r .n200) (r .n100) (r .n50) (x .left .0) (x .earned .0) (x .play .target .0) (c .saturating-sub3 .result) (c .before .match .keys4) (c .saturating-sub3 .ensures)
+unfolding optimizeLastThree
+returns-4 c = rw (c .saturating-sub3 .ensures, c .before .plus3 .ensures) (known (c .before .before .before .before .before) 6 (c .before .before .match .keys4))
 
 returns-5 : tie.Need-returns-5
+unfolding optimizeLastThree
 returns-5 c =
-    let x = c .before .before .before .before .before .before .args in
-    let r = x .play .counts in
-    has200 (x .play .presence) (r .n200) (r .n100) (r .n50) (x .left .0) (x .earned .0) (x .play .target .0) (c .two-of-last .result .0) (c .two-of-last .result .1) (c .before .before .match .keys5) (c .two-of-last .ensures .heavier) (c .two-of-last .ensures .lighter)
+    let two = c .before .before .two-of-last .ensures in
+    rw (two .lighter, two .heavier, c .before .before .before .plus4 .ensures, c .before .before .before .before .times .ensures) (known (c .before .before .before .before .before .before .before .before) 1 (c .before .before .before .before .before .match .keys5))
 
 returns-6 : tie.Need-returns-6
+unfolding optimizeLastThree
 returns-6 c =
-    let x = c .before .before .before .before .before .before .args in
-    let r = x .play .counts in
-    has100 (x .play .presence) (r .n200) (r .n100) (r .n50) (x .left .0) (x .earned .0) (x .play .target .0) (c .two-of-last2 .result .0) (c .two-of-last2 .result .1) (c .before .before .match .keys6) (c .two-of-last2 .ensures .heavier) (c .two-of-last2 .ensures .lighter)
+    let two = c .before .before .two-of-last2 .ensures in
+    rw (two .lighter, two .heavier, c .before .before .before .plus5 .ensures, c .before .before .before .before .times2 .ensures) (known (c .before .before .before .before .before .before .before .before) 2 (c .before .before .before .before .before .match .keys6))
 
 returns-7 : tie.Need-returns-7
+unfolding optimizeLastThree
 returns-7 c =
-    let x = c .before .before .before .before .before .before .args in
-    let r = x .play .counts in
-    has50 (x .play .presence) (r .n200) (r .n100) (r .n50) (x .left .0) (x .earned .0) (x .play .target .0) (c .two-of-last3 .result .0) (c .two-of-last3 .result .1) (c .before .before .match .keys7) (c .two-of-last3 .ensures .heavier) (c .two-of-last3 .ensures .lighter)
+    let two = c .before .before .two-of-last3 .ensures in
+    rw (two .lighter, two .heavier, c .before .before .before .plus6 .ensures, c .before .before .before .before .times3 .ensures) (known (c .before .before .before .before .before .before .before .before) 4 (c .before .before .before .before .before .match .keys7))
 
 returns-8 : tie.Need-returns-8
 returns-8 c =
-    let x = c .before .before .before .before .before .args in
-    let r = x .play .counts in
     let n = c .before .match .rest in
-    c .all-three .ensures
-    ∙ has-none (x .play .presence) (r .n200) (r .n100) (r .n50) (x .left .0) (x .earned .0) (x .play .target .0)
-    (no-bit _ (omega (arith, c .before .before .before .before .before .pre .0 .bits)) (n .0 .0 .0 .0 .0 .0 .1) (n .0 .0 .0 .0 .0 .1) (n .0 .0 .0 .0 .1) (n .0 .0 .0 .1) (n .0 .0 .1) (n .0 .1) (n .1))
+    c .all-three .ensures ∙ known (c .before .before .before .before) 0 (no-bit _ (omega arith) (n .0 .0 .0 .0 .0 .0 .1) (n .0 .0 .0 .0 .0 .1) (n .0 .0 .0 .0 .1) (n .0 .0 .0 .1) (n .0 .0 .1) (n .0 .1) (n .1))
 
 pub optimize-last-three-spec : {M : Type 1} → statement M
 optimize-last-three-spec =
     tie.close
     (tie.spec
-    add-saturating-sub
+    plus-requires
     saturating-sub-requires
-    add-saturating-sub-2
+    plus-requires-2
     saturating-sub-requires-2
-    add-saturating-sub-3
+    plus-requires-3
     saturating-sub-requires-3
-    mul-base
-    add-base
+    times-requires
+    plus-requires-4
     two-of-last-requires
-    mul-base-2
-    add-base-2
+    times-requires-2
+    plus-requires-5
     two-of-last-requires-2
-    mul-base-3
-    add-base-3
+    times-requires-3
+    plus-requires-6
     two-of-last-requires-3
     all-three-requires
     returns

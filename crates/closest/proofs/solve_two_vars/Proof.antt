@@ -1,89 +1,95 @@
--- `closest::solve_two_vars` meets its contract. Assumes nothing.
-use mathlib.Core.Path.{refl}
+-- `closest::solve_two_vars`: equal weights are halved, and otherwise four splits are tried. Assumes nothing.
+use Prim.Native.Nat.{_*_, _≤_}
+use mathlib.Core.Path.{sym, _∙_}
+use native.Mathlib.Nat.{mul-le-mul, le-trans}
 use native.Mathlib.Omega.{arith}
-use native.Mathlib.Nat.{mul-le-mul-right, le-trans, le-of-eq, le-refl, min-le-left}
-use Prim.Native.Nat.{zero-le}
-use Rattle.closest_laws.proofs.Fills.{halved, four}
-use Rattle.closest.specs.Code.{splitView}
+use borrow.Author.Needs.{needs}
+use Rattle.score_state.specs.Limits.{mostWeight, mostPoints}
+use Rattle.closest_laws.proofs.TwoMissing.{solved-alike}
+use Rattle.closest_laws.proofs.Fills.{four}
 use Rattle.closest.proofs.solve_two_vars.Statement.{statement}
 use Rattle.closest.proofs.solve_two_vars.Tie as tie
 
-sub-rest : tie.Need-sub-rest
-sub-rest c = omega arith
+base : (c : tie.Else1) → c .before .args .w2 * c .before .args .remain-hits .0 ≤ mostPoints
+base c =
+    let w : c .before .args .w2 ≤ mostWeight = omega arith in
+    mul-le-mul w (c .before .pre .2)
+
+half-requires : tie.Need-half-requires
+half-requires c κs = search needs
+
+minus-requires : tie.Need-minus-requires
+minus-requires c κs = search needs
 
 returns : tie.Need-returns
 returns c =
     let x = c .before .before .before .args in
-    halved (x .w1) (x .w2) (x .target .0) (x .hits .0) (x .sum .0) (c .before .before .if1 .taken)
+    rw (c .minus .ensures, c .before .half .ensures) (sym (solved-alike (x .w1) (x .w2) (x .target .0) (x .remain-hits .0) (x .provided-sum .0) (c .before .before .if1 .taken)))
 
-mul-base : tie.Need-mul-base
-mul-base c = omega (arith, mul-le-mul-right (c .before .before .args .hits .0) (le-trans (c .before .before .pre .1) (c .before .before .pre .0)), c .before .before .pre .2)
+times-requires : tie.Need-times-requires
+times-requires c κs = omega (arith, base c)
 
-add-base : tie.Need-add-base
-add-base c = omega (arith, mul-le-mul-right (c .before .before .before .args .hits .0) (le-trans (c .before .before .before .pre .1) (c .before .before .before .pre .0)), c .before .before .before .pre .2, c .before .before .before .pre .3)
+plus-requires : tie.Need-plus-requires
+plus-requires c κs = omega (arith, base (c .before), c .times .ensures, c .before .before .pre)
 
 saturating-sub-requires : tie.Need-saturating-sub-requires
-saturating-sub-requires c κs = tt
+saturating-sub-requires c κs = search needs
 
 sub-step : tie.Need-sub-step
-sub-step c = c .before .before .before .before .pre .1
+sub-step c = search needs
 
-div-least : tie.Need-div-least
-div-least c = omega (arith, c .before .before .before .before .pre .1, c .before .before .before .if1 .left)
+steps-requires : tie.Need-steps-requires
+steps-requires c κs = search needs
 
 least-requires : tie.Need-least-requires
-least-requires c κs = tt
+least-requires c κs = search needs
 
 div-ceil-requires : tie.Need-div-ceil-requires
-div-ceil-requires c κs = (omega (arith, c .before .saturating-sub .ensures, c .before .before .before .before .before .pre .4), omega (arith, c .before .before .before .before .before .pre .1, c .before .before .before .before .if1 .left), omega (arith, c .before .before .before .before .before .pre .0))
+div-ceil-requires c κs = search needs
 
 least-requires-2 : tie.Need-least-requires-2
-least-requires-2 c κs = tt
+least-requires-2 c κs = search needs
 
-at-requires : tie.Need-at-requires
-at-requires c κs =
-    let p = c .before .before .before .before .before .before .before .pre in
-    (p .0, le-trans (p .1) (p .0), p .2, p .3, zero-le)
+split-at-requires : tie.Need-split-at-requires
+split-at-requires c κs = search needs
 
-at-requires-2 : tie.Need-at-requires-2
-at-requires-2 c κs =
-    let p = c .before .before .before .before .before .before .before .before .pre in
-    (p .0, le-trans (p .1) (p .0), p .2, p .3, le-trans (le-of-eq (c .before .before .before .least .ensures)) (min-le-left _ _))
+split-at-requires-2 : tie.Need-split-at-requires-2
+split-at-requires-2 c κs = search needs
 
-at-requires-3 : tie.Need-at-requires-3
-at-requires-3 c κs =
-    let p = c .before .before .before .before .before .before .before .before .before .pre in
-    (p .0, le-trans (p .1) (p .0), p .2, p .3, le-trans (le-of-eq (c .before .before .least2 .ensures)) (min-le-left _ _))
-
-at-requires-4 : tie.Need-at-requires-4
-at-requires-4 c κs =
+split-at-requires-3 : tie.Need-split-at-requires-3
+split-at-requires-3 c κs =
     let p = c .before .before .before .before .before .before .before .before .before .before .pre in
-    (p .0, le-trans (p .1) (p .0), p .2, p .3, le-refl (c .before .before .before .before .before .before .before .before .before .before .args .hits .0))
+    (p .0, le-trans (p .1) (p .0), p .2, p .3, omega (arith, c .before .before .least2 .ensures))
+
+split-at-requires-4 : tie.Need-split-at-requires-4
+split-at-requires-4 c κs =
+    let p = c .before .before .before .before .before .before .before .before .before .before .before .pre in
+    (p .0, le-trans (p .1) (p .0), p .2, p .3, omega arith)
 
 returns-2 : tie.Need-returns-2
 returns-2 c =
-    let x = c .before .before .before .before .before .before .before .before .before .before .before .before .args in
-    four (x .w1) (x .w2) (x .target .0) (x .hits .0) (x .sum .0) (c .before .before .before .before .before .before .before .before .saturating-sub .result) (c .before .before .before .before .before .before .before .least .result) (c .before .before .before .before .before .before .div-ceil .result) (c .before .before .before .before .before .least2 .result)
-    _ (splitView (c .before .before .before .before .at .result)) (splitView (c .before .before .before .at2 .result)) (splitView (c .before .before .at3 .result)) (splitView (c .before .at4 .result))
-    (c .before .before .before .before .before .before .before .before .before .before .before .if1 .left) (c .before .before .before .before .before .before .before .before .saturating-sub .ensures) (c .before .before .before .before .before .before .before .least .ensures) (c .before .before .before .before .before .before .div-ceil .ensures .0) (c .before .before .before .before .before .least2 .ensures) refl
-    (c .before .before .before .before .at .ensures) (c .before .before .before .at2 .ensures) (c .before .before .at3 .ensures) (c .before .at4 .ensures)
+    let x = c .before .before .before .before .before .before .before .before .before .before .before .before .before .args in
+    four (x .w1) (x .w2) (x .target .0) (x .remain-hits .0) (x .provided-sum .0) (c .before .before .before .before .before .before .before .before .before .before .before .before .if1 .left)
+    (c .before .before .before .before .before .before .before .before .before .saturating-sub .ensures ∙ rw (c .before .before .before .before .before .before .before .before .before .before .plus .ensures, c .before .before .before .before .before .before .before .before .before .before .before .times .ensures)) (c .before .before .before .before .before .before .before .least .ensures ∙ rw (c .before .before .before .before .before .before .before .before .steps .ensures .0)) (c .before .before .before .before .before .least2 .ensures ∙ rw (c .before .before .before .before .before .before .div-ceil .ensures .0))
+    (c .before .before .before .before .split-at .ensures) (c .before .before .before .split-at2 .ensures) (c .before .before .split-at3 .ensures) (c .before .split-at4 .ensures)
 
 pub solve-two-vars-spec : {M : Type 1} → statement M
 solve-two-vars-spec =
     tie.close
     (tie.spec
-    sub-rest
+    half-requires
+    minus-requires
     returns
-    mul-base
-    add-base
+    times-requires
+    plus-requires
     saturating-sub-requires
     sub-step
-    div-least
+    steps-requires
     least-requires
     div-ceil-requires
     least-requires-2
-    at-requires
-    at-requires-2
-    at-requires-3
-    at-requires-4
+    split-at-requires
+    split-at-requires-2
+    split-at-requires-3
+    split-at-requires-4
     returns-2)

@@ -1,36 +1,33 @@
--- `closest::start` meets its contract. Assumes nothing.
-use mathlib.Core.Path.{sym, _∙_}
-use native.Mathlib.Omega.{arith}
-use lib.Ieee.{ofBits}
-use Rattle.inspect.specs.Presence.{has}
-use Rattle.closest_laws.proofs.Steps.{start-is, or-given, or-missing, not-true, not-false}
-use Rattle.closest.specs.Code.{playView}
+-- `closest::start`: n50 is the given one, or all that remains. Assumes nothing.
+use mathlib.Core.Path.{_≡_, sym, _∙_, ap}
+use mathlib.Core.Logic.{⊎-elim}
+use borrow.Author.Tests.{not-true, not-false}
+use borrow.Author.Needs.{needs}
+use Rattle.score_state.specs.Given.{or}
+use Rattle.score_state.specs.declared.Hits.{Hits}
+use Rattle.inspect.specs.Presence.{has, given}
+use Rattle.closest_laws.specs.Closest as Laws
+use Rattle.closest_laws.proofs.Steps.{or-given, or-missing}
 use Rattle.closest.proofs.start.Statement.{statement}
 use Rattle.closest.proofs.start.Tie as tie
 
 is-given-requires : tie.Need-is-given-requires
-is-given-requires c κs = omega arith
+is-given-requires c κs = search needs
+
+of-requires : tie.Need-of-requires
+of-requires c κs = search needs
 
 returns : tie.Need-returns
-unfolding ofBits
+unfolding Laws.start
 returns c =
     let p = c .before .before .before .before .args .play in
-    let r = c .before .before .before .before .pre in
-    start-is (playView p) (p .counts .n320) (p .counts .n300) (p .counts .n200) (p .counts .n100) (p .remain .0) (r .zero320) (r .zero300) (r .zero200) (r .zero100)
-    (or-missing (has (p .presence) 16) (p .counts .n50) (p .remain .0) (sym (c .before .is-given .ensures) ∙ not-true (c .before .is-given .result) (c .if1 .taken)))
-
-returns-2 : tie.Need-returns-2
-unfolding ofBits
-returns-2 c =
-    let p = c .before .before .before .before .args .play in
-    let r = c .before .before .before .before .pre in
-    start-is (playView p) (p .counts .n320) (p .counts .n300) (p .counts .n200) (p .counts .n100) (p .counts .n50) (r .zero320) (r .zero300) (r .zero200) (r .zero100)
-    (or-given (has (p .presence) 16) (p .counts .n50) (p .remain .0) (sym (c .before .is-given .ensures) ∙ not-false (c .before .is-given .result) (c .if1 .left)))
+    let g = c .before .before .is-given in
+    let n50 : or (given (has (p .presence) 16) (p .counts .n50)) (p .remain .0) ≡ c .before .if1 .n50 .0 =
+    ⊎-elim
+    (λ w. or-missing (has (p .presence) 16) (p .counts .n50) (p .remain .0) (sym (g .ensures) ∙ not-true (g .result) (w .0 .taken)) ∙ sym (ap (λ (h : Hits). h .0) (w .2)))
+    (λ w. or-given (has (p .presence) 16) (p .counts .n50) (p .remain .0) (sym (g .ensures) ∙ not-false (g .result) (w .0 .left)) ∙ sym (ap (λ (h : Hits). h .0) (w .1)))
+    (c .before .if1 .came) in
+    cc
 
 pub start-spec : {M : Type 1} → statement M
-start-spec =
-    tie.close
-    (tie.spec
-    is-given-requires
-    returns
-    returns-2)
+start-spec = tie.close (tie.spec is-given-requires of-requires returns)

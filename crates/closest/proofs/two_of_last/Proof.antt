@@ -1,53 +1,48 @@
--- `closest::two_of_last` meets its contract. Assumes nothing.
+-- `closest::two_of_last` rounds to the nearest, a half to even. Assumes nothing.
 use Prim.Native.Nat.{_≤_}
+use native.Mathlib.Nat.{mul-le-mul-left}
 use native.Mathlib.Omega.{arith}
-use native.Mathlib.Nat.{mul-le-mul, le-trans, le-of-eq, min-le-left}
-use Rattle.closest_laws.proofs.Arms.{two-last-is}
+use borrow.Author.Needs.{needs}
 use Rattle.closest.proofs.two_of_last.Statement.{statement}
 use Rattle.closest.proofs.two_of_last.Tie as tie
 
 saturating-sub-requires : tie.Need-saturating-sub-requires
-saturating-sub-requires c κs = tt
+saturating-sub-requires c κs = search needs
 
-mul-saturating-sub : tie.Need-mul-saturating-sub
-mul-saturating-sub c =
-    let k : c .saturating-sub .result ≤ 200_000 = omega (arith, c .saturating-sub .ensures, c .before .pre .0) in
-    omega (arith, mul-le-mul (c .before .pre .3) k)
+times-requires : tie.Need-times-requires
+times-requires c κs =
+    let h : c .saturating-sub .result .0 ≤ c .before .args .remain .0 = omega arith in
+    omega (arith, mul-le-mul-left (c .before .args .light) h)
 
-add-saturating-sub : tie.Need-add-saturating-sub
-add-saturating-sub c =
-    let k : c .before .saturating-sub .result ≤ 200_000 = omega (arith, c .before .saturating-sub .ensures, c .before .before .pre .0) in
-    omega (arith, mul-le-mul (c .before .before .pre .3) k, c .before .before .pre .1)
+plus-requires : tie.Need-plus-requires
+plus-requires c κs =
+    let h : c .before .saturating-sub .result .0 ≤ c .before .before .args .remain .0 = omega arith in
+    omega (arith, mul-le-mul-left (c .before .before .args .light) h)
 
 saturating-sub-requires-2 : tie.Need-saturating-sub-requires-2
-saturating-sub-requires-2 c κs = tt
+saturating-sub-requires-2 c κs = search needs
 
 div-round-ties-even-requires : tie.Need-div-round-ties-even-requires
-div-round-ties-even-requires c κs = (omega (arith, c .saturating-sub2 .ensures, c .before .before .before .pre .2), c .before .before .before .pre .4, omega (arith, c .before .before .before .pre .5))
+div-round-ties-even-requires c κs = search needs
 
 least-requires : tie.Need-least-requires
-least-requires c κs = tt
+least-requires c κs = search needs
 
-sub-y : tie.Need-sub-y
-sub-y c = le-trans (le-of-eq (c .least .ensures)) (min-le-left _ _)
+saturating-sub-requires-3 : tie.Need-saturating-sub-requires-3
+saturating-sub-requires-3 c κs = search needs
 
 returns : tie.Need-returns
-returns c =
-    let x = c .before .before .before .before .before .args in
-    let t =
-    two-last-is (x .left .0) (x .n) (x .base .0) (x .target .0) (x .light) (x .step) (c .before .before .before .before .saturating-sub .result) (c .before .before .saturating-sub2 .result) (c .before .div-round-ties-even .result) (c .least .result)
-    (c .before .before .before .before .saturating-sub .ensures) (c .before .before .saturating-sub2 .ensures) (c .before .div-round-ties-even .ensures) (c .least .ensures) in
-    record { heavier = t .0; lighter = t .1 }
+returns c = record { heavier = cc; lighter = cc }
 
 pub two-of-last-spec : {M : Type 1} → statement M
 two-of-last-spec =
     tie.close
     (tie.spec
     saturating-sub-requires
-    mul-saturating-sub
-    add-saturating-sub
+    times-requires
+    plus-requires
     saturating-sub-requires-2
     div-round-ties-even-requires
     least-requires
-    sub-y
+    saturating-sub-requires-3
     returns)

@@ -1,4 +1,4 @@
--- `closest::Best::offer` meets its contract: the candidate is taken where its f64 distance is less. Assumes nothing.
+-- `closest::Best::offer`: the candidate is taken where its f64 distance is less. Assumes nothing.
 use lib.Ieee.{lt}
 use Rattle.closest_laws.proofs.Steps.{offer-took, offer-kept}
 use Rattle.closest.specs.Code.{bestView, bestTry}
@@ -16,8 +16,4 @@ returns-2 c =
     offer-kept lt (bestTry (x .dist) (x .result)) (bestView (x .self)) (c .if1 .left)
 
 pub offer-spec : {M : Type 1} → statement M
-offer-spec =
-    tie.close
-    (tie.spec
-    returns
-    returns-2)
+offer-spec = tie.close (tie.spec returns returns-2)

@@ -1,28 +1,29 @@
--- `closest::Near::offer` meets its contract: the candidate is taken where nothing is found yet or it is nearer. Assumes nothing.
+-- `closest::Near::offer`: the pair is taken where nothing is found yet or it is nearer. Assumes nothing.
+use mathlib.Core.Path.{sym, _∙_}
 use mathlib.Core.Logic.{⊎-elim}
+use borrow.Author.Needs.{needs}
 use Rattle.closest_laws.specs.Loops.{nearer}
 use Rattle.closest_laws.proofs.Steps.{offer-took, near-fresh, near-less, near-kept}
-use Rattle.closest.specs.Code.{nearTry, nearView, lastView}
+use Rattle.closest.specs.Code.{nearTry, nearView}
 use Rattle.closest.proofs.Near.offer.Statement.{statement}
 use Rattle.closest.proofs.Near.offer.Tie as tie
 
+less-requires : tie.Need-less-requires
+less-requires c κs = search needs
+
 returns : tie.Need-returns
 returns c =
-    let x = c .before .before .before .args in
-    offer-took nearer (nearTry (x .dist) (x .last)) (nearView (x .self))
+    let x = c .before .before .args in
+    offer-took nearer (nearTry (x .dist) (x .pair)) (nearView (x .self))
     (⊎-elim
     (λ w. near-fresh (x .self .found) (x .dist .0) (x .self .dist .0) (w .taken))
-    (λ w. near-less (x .self .found) (x .dist .0) (x .self .dist .0) (w .0 .left) (w .3 .taken))
+    (λ w. near-less (x .self .found) (x .dist .0) (x .self .dist .0) (w .0 .left) (sym (w .1 .ensures) ∙ w .2 .taken))
     (c .if1 .came))
 
 returns-2 : tie.Need-returns-2
 returns-2 c =
-    let x = c .before .before .before .before .before .before .args in
-    near-kept (x .self .found) (lastView (x .last)) (x .dist .0) (x .self .dist .0) (lastView (x .self .last)) (c .before .before .before .if1 .left) (c .if2 .left)
+    let x = c .before .before .before .before .args in
+    near-kept (x .self .found) (x .pair) (x .dist .0) (x .self .dist .0) (x .self .pair) (c .before .before .if1 .left) (sym (c .before .less .ensures) ∙ c .if2 .left)
 
 pub offer-spec : {M : Type 1} → statement M
-offer-spec =
-    tie.close
-    (tie.spec
-    returns
-    returns-2)
+offer-spec = tie.close (tie.spec less-requires returns returns-2)
