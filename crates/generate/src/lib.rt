@@ -15,8 +15,10 @@ ghost use Rattle.generate.specs.Code.{ignoresAcc};
 use closest::Closest;
 use inspect::Accuracy;
 use inspect::Query;
+use nearest::Five;
 use nearest::Outcome;
 use score_state::HitResults;
+use score_state::Hits;
 
 // The six counts with tried, or the number that refuses and nothing else.
 pub enum Generated {
@@ -48,18 +50,24 @@ fn nearest_counts(q: Query, acc: f64) -> Generated
     let w = score_state::perfect_weight(q.classic);
     let target = inspect::target_of(acc, w, total);
     let weights = score_state::standard_weights(q.classic);
-    let given = HitResults {
-        n320: q.n320,
-        n300: q.n300,
-        n200: q.n200,
-        n100: q.n100,
-        n50: q.n50,
-        misses: 0,
+    let given = Five {
+        n320: Hits(q.n320),
+        n300: Hits(q.n300),
+        n200: Hits(q.n200),
+        n100: Hits(q.n100),
+        n50: Hits(q.n50),
     };
     match nearest::nearest(weights, q.presence, given, remain, target) {
         Outcome::Found(split) => {
-            let mut counts = split.counts;
-            counts.misses = missed.0;
+            let five = split.counts;
+            let counts = HitResults::of(
+                five.n320,
+                five.n300,
+                five.n200,
+                five.n100,
+                five.n50,
+                missed,
+            );
             Generated::Counts(counts, split.tried)
         }
         Outcome::NoSplit => Generated::Refused(14),

@@ -1,7 +1,7 @@
 // inspect.rs: a query, its total hits, misses and remaining hits, the rounded target, and the checks that every method shares.
 ghost use mathlib.Core.Path.{_≡_};
 ghost use mathlib.Core.Bool.{cond};
-ghost use Prim.Native.Nat.{_≤_, _<_, _*_, min};
+ghost use Prim.Native.Nat.{_≤_, _<_, _*_};
 ghost use lib.Dec.{T};
 ghost use lib.Ieee as Ieee;
 ghost use Rattle.rounding.specs.Round.{zero64, one64};
@@ -98,13 +98,6 @@ pub fn is_given(presence: u8, place: u8) -> bool
     ensures { λ r. ⌜ r ≡ has presence place ⌝ }
 {
     presence / place % 2 == 1
-}
-
-// `cmp::min`
-pub fn least(a: u32, b: u32) -> u32
-    ensures { λ r. ⌜ r ≡ min a b ⌝ }
-{
-    if a < b { a } else { b }
 }
 
 // One of two numbers, as the count with this place value is missing or given.

@@ -1,16 +1,13 @@
 -- `generate::nearest_counts` meets its contract. Assumes nothing.
-use Rattle.nearest.specs.declared.Outcome.{Outcome}
-use Rattle.score_state.specs.Points.{perfectWeight}
-use Rattle.inspect.specs.Target.{target}
-use Rattle.nearest_laws.specs.Nearest as Laws
-use mathlib.Core.Path.{sym, ap, subst, _∙_}
 use Prim.Native.Nat.{ℕ}
-use native.Mathlib.Nat.{mul-le-mul}
+use mathlib.Core.Path.{_≡_, sym, ap, subst, _∙_}
 use native.Mathlib.Omega.{arith}
-use Rattle.score_state.specs.Points.{weightsOf}
+use Rattle.score_state.specs.Points.{perfectWeight, weightsOf}
 use Rattle.inspect.specs.Inspect.{inspectOf}
-use Rattle.nearest_laws.specs.Nearest.{Weighting, standard-weighting, nearestAnswer}
-use Rattle.nearest.specs.Presence as Nearest
+use Rattle.inspect.specs.Target.{target}
+use Rattle.nearest_laws.specs.Nearest.{Weighting, standard-weighting}
+use Rattle.nearest.specs.Outcome.{foundOf, outcomeOf}
+use Rattle.generate_laws.specs.Method3.{targetOf}
 use Rattle.generate_laws.proofs.Answered.{nearest-found, nearest-none}
 use borrow.Author.Needs.{needs}
 use Rattle.generate.proofs.nearest_counts.Statement.{statement}
@@ -38,11 +35,9 @@ nearest-requires : tie.Need-nearest-requires
 nearest-requires c κs =
     let q = c .before .before .before .before .before .before .args .q in
     let d = c .before .before .before .before .before .before .pre .0 in
-    let t = mul-le-mul (c .before .before .perfect-weight .ensures .1) (c .before .before .before .before .before .total-hits .ensures .1) in
     record {
       weighting = subst Weighting (sym (c .standard-weights .ensures .0)) (standard-weighting (q .classic));
-      few = c .before .before .before .remain .ensures .1;
-      low = omega (arith, t);
+      fits = omega arith;
       n320 = d .n320;
       n300 = d .n300;
       n200 = d .n200;
@@ -53,28 +48,37 @@ nearest-requires c κs =
 enum-known-split : tie.Need-enum-known-split
 enum-known-split c = search needs
 
+of-requires : tie.Need-of-requires
+of-requires c κs = search needs
+
 enum-told : tie.Need-enum-told
 enum-told c = search needs
 
+-- the target that the walk is given is the query's
+target-is : (s : tie.After-standard-weights) → s .before .target-of .result .0 ≡ targetOf (inspectOf (s .before .before .before .before .before .before .args .q)) (s .before .before .before .before .before .before .args .acc)
+target-is s =
+    let x = s .before .before .before .before .before .before .args in
+    s .before .target-of .ensures .0
+    ∙ ap (λ (w : ℕ). target (x .acc) w (s .before .before .before .before .before .total-hits .result .0)) (s .before .before .perfect-weight .ensures .0)
+    ∙ ap (λ (t : ℕ). target (x .acc) (perfectWeight (x .q .classic)) t) (s .before .before .before .before .before .total-hits .ensures .0)
+
 returns : tie.Need-returns
-unfolding nearestAnswer
 returns c =
-    nearest-found (inspectOf (c .before .before .before .before .before .before .before .before .before .before .before .args .q)) (c .before .before .before .before .before .before .before .before .before .before .before .args .acc) (weightsOf (c .before .before .before .before .before .standard-weights .result)) (c .before .before .before .before .before .before .target-of .result .0) (c .before .before .before .before .before .before .before .before .remain .result .0) (c .before .before .before .before .before .before .before .before .before .misses .result .0)
-    (c .before .before .before .before .before .standard-weights .ensures .0)
-    (c .before .before .before .before .before .before .target-of .ensures .0 ∙ ap (λ (w : ℕ). target (c .before .before .before .before .before .before .before .before .before .before .before .args .acc) w (c .before .before .before .before .before .before .before .before .before .before .total-hits .result .0)) (c .before .before .before .before .before .before .before .perfect-weight .ensures .0)
-    ∙ ap (λ (t : ℕ). target (c .before .before .before .before .before .before .before .before .before .before .before .args .acc) (perfectWeight (c .before .before .before .before .before .before .before .before .before .before .before .args .q .classic)) t) (c .before .before .before .before .before .before .before .before .before .before .total-hits .ensures .0))
-    (c .before .before .before .before .before .before .before .before .remain .ensures .0) (c .before .before .before .before .before .before .before .before .before .misses .ensures .0)
-    (Nearest.foundOf (c .before .before .split .given .0 .0)) (sym (ap (λ (o : Outcome). Nearest.answerOf o .found) (c .before .before .split .given .1)) ∙ ap (λ (a : Laws.Answer). a .found) (c .before .before .before .before .nearest .ensures))
+    let s = c .before .before .before .before .before .before in
+    let x = s .before .before .before .before .before .before .args in
+    rw (c .of .ensures)
+    (nearest-found (inspectOf (x .q)) (x .acc) (weightsOf (s .standard-weights .result)) (s .before .target-of .result .0) (s .before .before .before .remain .result .0) (s .before .before .before .before .misses .result .0)
+    (s .standard-weights .ensures .0) (target-is s) (s .before .before .before .remain .ensures .0) (s .before .before .before .before .misses .ensures .0)
+    (foundOf (c .before .before .before .split .given .0 .0))
+    (sym (ap outcomeOf (c .before .before .before .split .given .1)) ∙ c .before .before .before .before .before .nearest .ensures))
 
 returns-2 : tie.Need-returns-2
-unfolding nearestAnswer
 returns-2 c =
-    nearest-none (inspectOf (c .before .before .before .before .before .before .before .before .before .args .q)) (c .before .before .before .before .before .before .before .before .before .args .acc) (weightsOf (c .before .before .before .standard-weights .result)) (c .before .before .before .before .target-of .result .0) (c .before .before .before .before .before .before .remain .result .0) (c .before .before .before .before .before .before .before .misses .result .0)
-    (c .before .before .before .standard-weights .ensures .0)
-    (c .before .before .before .before .target-of .ensures .0 ∙ ap (λ (w : ℕ). target (c .before .before .before .before .before .before .before .before .before .args .acc) w (c .before .before .before .before .before .before .before .before .total-hits .result .0)) (c .before .before .before .before .before .perfect-weight .ensures .0)
-    ∙ ap (λ (t : ℕ). target (c .before .before .before .before .before .before .before .before .before .args .acc) (perfectWeight (c .before .before .before .before .before .before .before .before .before .args .q .classic)) t) (c .before .before .before .before .before .before .before .before .total-hits .ensures .0))
-    (c .before .before .before .before .before .before .remain .ensures .0) (c .before .before .before .before .before .before .before .misses .ensures .0)
-    (sym (ap (λ (o : Outcome). Nearest.answerOf o .found) (c .enum-told .given .1)) ∙ ap (λ (a : Laws.Answer). a .found) (c .before .before .nearest .ensures))
+    let s = c .before .before .before in
+    let x = s .before .before .before .before .before .before .args in
+    nearest-none (inspectOf (x .q)) (x .acc) (weightsOf (s .standard-weights .result)) (s .before .target-of .result .0) (s .before .before .before .remain .result .0) (s .before .before .before .before .misses .result .0)
+    (s .standard-weights .ensures .0) (target-is s) (s .before .before .before .remain .ensures .0) (s .before .before .before .before .misses .ensures .0)
+    (sym (ap outcomeOf (c .enum-told .given .1)) ∙ c .before .before .nearest .ensures)
 
 pub nearest-counts-spec : {M : Type 1} → statement M
 nearest-counts-spec =
@@ -88,6 +92,7 @@ nearest-counts-spec =
     standard-weights-requires
     nearest-requires
     enum-known-split
+    of-requires
     enum-told
     returns
     returns-2)
