@@ -1,196 +1,129 @@
--- The three fillings are the walk: of no missing weight, of one, and of more.
-use Prim.Native.Nat.{ℕ, _+_, _-_, _*_, _≤_}
-use mathlib.Core.Bool.{Bool, true, false}
+-- How many judgements are missing chooses the candidates, and these are the walk's: of no missing weight, of one, and of more.
+use Prim.Native.Nat.{ℕ, zero, suc, _+_, _*_, _<_, _≤_}
+use mathlib.Core.Bool.{not}
 use mathlib.Core.List.{List, [], _∷_, head-eq-of-cons-eq}
-use mathlib.Core.Option.{none}
-use mathlib.Core.Path.{_≡_, refl, sym, ap, ap₂, _∙_, subst}
+use mathlib.Core.Path.{_≡_, refl, sym, ap, _∙_, subst}
+use lib.Dec.{T}
 use lib.ListN.{length}
 use native.Mathlib.Nat.{mul-le-mul-right}
 use native.Mathlib.Omega.{arith}
+use types.Run.{OneOf, miss}
+use mir.Val.{hasKey}
+use denote.Enum.Declared.{tagOf}
+use Rattle.score_state.specs.Limits.{most32, mostWeight}
 use Rattle.score_state.specs.Points.{weightsOf}
-use Rattle.score_state.specs.Given.{fill}
+use Rattle.score_state.specs.Given.{missing, fill}
 use Rattle.score_state.specs.declared.HitResults.{HitResults}
+use Rattle.score_state.specs.declared.Points.{Points}
 use Rattle.score_state.specs.declared.Weights.{Weights}
-use Rattle.inspect.specs.Presence.{has, given}
-use Rattle.nearest_laws.specs.Walk.{Middle, Best, start, over, better, offer, settle, settings, lastOf, candidates, walk, Falling}
-use Rattle.nearest_laws.specs.Places.{slotOf, Slot, places}
+use Rattle.inspect.specs.Presence.{has, given, givensOf, lacking, missingOf}
+use Rattle.inspect.specs.declared.Missing.{Missing}
+use Rattle.inspect.proofs.Missing.{the-type}
+use Rattle.nearest_laws.specs.Walk.{Best, start, over, better, offer, settle, trial, lastOf, candidates, walk, Falling}
 use Rattle.nearest_laws.proofs.Near.{last-lt}
 use Rattle.nearest_laws.proofs.Places.{slot-good, none-placed, one-placed, five-placed}
-use Rattle.nearest.specs.Code.{view, ms3, Steady}
-use Rattle.nearest.specs.Presence.{givensOf, absent, firstOf, blanks, Planned, Walked}
+use Rattle.nearest_laws.proofs.Search.{three-fresh}
+use Rattle.nearest.specs.Code.{view, fresh, middleOf, unset, eachN300, candidatesOf, Walkable}
+use Rattle.nearest.specs.Presence.{firstOf, Planned, placesOf}
 use Rattle.nearest.specs.declared.Best.{Best as BestCode}
 use Rattle.nearest.specs.declared.Plan.{Plan}
-use Rattle.nearest.proofs.Known.{blanks-missing, absent-is}
+use Rattle.nearest.proofs.Known.{missing-length}
 
-pub first-le : (us : List ℕ) → Falling 101 us → firstOf 0 us ≤ 100
+-- ---- The arms of a match on how many are missing.
+
+no-other
+    : (n : ℕ) (m : Missing) (ks : List ℕ) → m ≡ missingOf n → T (not (hasKey ks (tagOf the-type (missingOf n))))
+    → OneOf ks (tagOf the-type m) → ⊥
+no-other n m ks e t o = miss ks (tagOf the-type (missingOf n)) t (subst (λ (x : Missing). OneOf ks (tagOf the-type x)) e o)
+
+-- the cases but `Nothing`, and the last two
+pub some-missing : (n : ℕ) (m : Missing) → m ≡ missingOf n → OneOf (1 ∷ 2 ∷ 3 ∷ []) (tagOf the-type m) → 1 ≤ n
+some-missing zero m e o = absurd (no-other 0 m (1 ∷ 2 ∷ 3 ∷ []) e tt o)
+some-missing (suc n) m e o = omega arith
+
+pub two-missing : (n : ℕ) (m : Missing) → m ≡ missingOf n → OneOf (2 ∷ 3 ∷ []) (tagOf the-type m) → 2 ≤ n
+two-missing zero m e o = absurd (no-other 0 m (2 ∷ 3 ∷ []) e tt o)
+two-missing (suc zero) m e o = absurd (no-other 1 m (2 ∷ 3 ∷ []) e tt o)
+two-missing (suc (suc n)) m e o = omega arith
+
+pub candidates-two : (n : ℕ) (p : Plan) (R g : ℕ) → 2 ≤ n → candidatesOf n p R g ≡ eachN300 p (unset R g)
+candidates-two zero p R g h = absurd (omega arith)
+candidates-two (suc zero) p R g h = absurd (omega arith)
+candidates-two (suc (suc n)) p R g h = refl
+
+-- ---- What the walk asks.
+
+first-le : (us : List ℕ) → Falling (suc mostWeight) us → firstOf 0 us ≤ mostWeight
 unfolding firstOf
 first-le [] f = omega arith
 first-le (a ∷ bs) f = omega (arith, f .0)
 
-no-more : (us : List ℕ) → length us ≡ 0 → us ≡ []
-no-more [] e = refl
-no-more (a ∷ bs) e = absurd (omega arith)
-
-one-more : (us : List ℕ) → length us ≡ 1 → us ≡ firstOf 0 us ∷ []
-unfolding firstOf
-one-more [] e = absurd (omega arith)
-one-more (a ∷ []) e = refl
-one-more (a ∷ (b ∷ bs)) e = absurd (omega arith)
-
--- at least two: the first and what follows it
-record Two (us : List ℕ) : Type 0 where
-  a : ℕ
-  b : ℕ
-  bs : List ℕ
-  is : us ≡ a ∷ (b ∷ bs)
-  first : firstOf 0 us ≡ a
-  last : lastOf 0 us ≡ lastOf b bs
-
-two-more : (us : List ℕ) → 2 ≤ length us → Two us
+last-le : (M : ℕ) (us : List ℕ) → Falling M us → lastOf 0 us ≤ firstOf 0 us
 unfolding firstOf lastOf
-two-more [] h = absurd (omega arith)
-two-more (a ∷ []) h = absurd (omega arith)
-two-more (a ∷ (b ∷ bs)) h = record { a = a; b = b; bs = bs; is = refl; first = refl; last = refl }
+last-le M [] f = omega arith
+last-le M (a ∷ []) f = omega arith
+last-le M (a ∷ (b ∷ bs)) f = omega (arith, last-lt a b bs (f .1 .0) (f .1 .1))
 
-slot-number : (a c w : ℕ) (x : Bool) (n : ℕ) → slotOf a c w (given x 0) ≡ slotOf a c w (given x n)
-unfolding slotOf
-slot-number a c w true n = refl
-slot-number a c w false n = refl
+last-less : (M : ℕ) (us : List ℕ) → Falling M us → 2 ≤ length us → lastOf 0 us < firstOf 0 us
+unfolding firstOf lastOf
+last-less M [] f h = absurd (omega arith)
+last-less M (a ∷ []) f h = absurd (omega arith)
+last-less M (a ∷ (b ∷ bs)) f h = last-lt a b bs (f .1 .0) (f .1 .1)
 
--- the walk of no weight, and of one
-walk-none : (T R g : ℕ) → (walk [] T R g .tried ≡ 0) × (walk [] T R g .counts ≡ [])
-unfolding walk candidates settle start
-walk-none T R g = (refl, refl)
-
-walk-one : (a T R g : ℕ) → (walk (a ∷ []) T R g .tried ≡ 1) × (walk (a ∷ []) T R g .counts ≡ R ∷ [])
-unfolding walk candidates settle start over offer better
-walk-one a T R g = (refl, refl)
-
--- a first offer is taken
-offer-first
-    : (T p : ℕ) (xs : List ℕ) (s : Best) → s .tried ≡ 0
-    → (offer T (record { counts = xs; points = p }) s .tried ≡ 1) × (offer T (record { counts = xs; points = p }) s .counts ≡ xs)
-unfolding offer better
-offer-first T p xs s e = rw e (refl, refl)
-
-module _ (w : Weights) (p : ℕ) (plan : Plan) (R g : ℕ) (pl : Planned w p plan) where
-  pub walked-none : (b : BestCode) → blanks p ≡ 0 → b .tried ≡ 0 → Walked w p plan R g b
-  walked-none b e t =
-      let n = no-more (absent w p) (blanks-missing w p ∙ e) in
-      let z = walk-none (plan .target .0) R g in
+module _ (w : Weights) (p : ℕ) (target : Points) (k : HitResults) (plan : Plan) (pl : Planned w p target plan) (R g : ℕ) where
+  pub walkable : Falling (suc mostWeight) (missing (weightsOf w) (givensOf p k)) → g + mostWeight * R ≤ most32 → Walkable (lacking p) plan R g
+  walkable f l =
+      let us = missing (weightsOf w) (givensOf p k) in
+      let light : plan .a ≤ mostWeight = omega (arith, pl .a k, first-le us f) in
       record {
-        tried = t ∙ sym (ap (λ (l : List ℕ). walk l (plan .target .0) R g .tried) n ∙ z .0);
-        counts =
-            λ k.
-            sym
-            (ap (λ (l : List ℕ). fill (givensOf p k) (walk l (plan .target .0) R g .counts)) n
-            ∙ ap (λ (l : List ℕ). fill (givensOf p k) l) (z .1)
-            ∙ none-placed (plan .a) (plan .c) (b .spread .top .0) (b .spread .rest .0)
-            (0 ∷ b .spread .n300 .0 ∷ b .spread .n200 .0 ∷ b .spread .n100 .0 ∷ 0 ∷ []) (weightsOf w) (givensOf p k) refl refl
-            (absent-is w p k ∙ n));
+        order = omega (arith, pl .a k, pl .c k, last-le (suc mostWeight) us f);
+        apart = λ h. omega (arith, pl .a k, pl .c k, last-less (suc mostWeight) us f (omega (arith, missing-length w p k)));
+        slots =
+            record {
+              n300 = rw (pl .n300 0) (slot-good (plan .a) (plan .c) (w .n300) (given (has p 2) 0));
+              n200 = rw (pl .n200 0) (slot-good (plan .a) (plan .c) (w .n200) (given (has p 4) 0));
+              n100 = rw (pl .n100 0) (slot-good (plan .a) (plan .c) (w .n100) (given (has p 8) 0));
+            };
+        light = light;
+        points = omega (arith, mul-le-mul-right R light);
       }
 
-  pub walked-one
-      : (b s : BestCode) → blanks p ≡ 1 → s .tried ≡ 0
-      → view b ≡ offer (plan .target .0) (record { counts = R ∷ 0 ∷ 0 ∷ 0 ∷ 0 ∷ []; points = g + plan .a * R }) (view s)
-      → Walked w p plan R g b
-  walked-one b s e t o =
-      let n : absent w p ≡ plan .a ∷ [] = one-more (absent w p) (blanks-missing w p ∙ e) ∙ ap (λ (a : ℕ). a ∷ []) (sym (pl .a)) in
-      let z = walk-one (plan .a) (plan .target .0) R g in
-      let f = offer-first (plan .target .0) (g + plan .a * R) (R ∷ 0 ∷ 0 ∷ 0 ∷ 0 ∷ []) (view s) t in
-      let top : b .spread .top .0 ≡ R = head-eq-of-cons-eq (ap (λ (r : Best). r .counts) o ∙ f .1) in
-      record {
-        tried = ap (λ (r : Best). r .tried) o ∙ f .0 ∙ sym (ap (λ (l : List ℕ). walk l (plan .target .0) R g .tried) n ∙ z .0);
-        counts =
-            λ k.
-            sym
-            (ap (λ (l : List ℕ). fill (givensOf p k) (walk l (plan .target .0) R g .counts)) n
-            ∙ ap (λ (l : List ℕ). fill (givensOf p k) l) (z .1 ∙ ap (λ (x : ℕ). x ∷ []) (sym top))
-            ∙ one-placed (plan .a) (plan .c) (b .spread .top .0) (b .spread .rest .0)
-            (0 ∷ b .spread .n300 .0 ∷ b .spread .n200 .0 ∷ b .spread .n100 .0 ∷ 0 ∷ []) (weightsOf w) (givensOf p k) refl refl
-            (absent-is w p k ∙ n));
-      }
+  -- the best's counts at their places are the walk's, filled in
+  module _ (b : BestCode) where
+    two
+        : (a d : ℕ) (bs : List ℕ) → missing (weightsOf w) (givensOf p k) ≡ a ∷ (d ∷ bs) → Falling a (d ∷ bs)
+        → view b ≡ settle (plan .target .0) (eachN300 plan (unset R g)) fresh
+        → (b .tried ≡ walk (a ∷ (d ∷ bs)) (plan .target .0) R g .tried)
+        × (fill (givensOf p k) (walk (a ∷ (d ∷ bs)) (plan .target .0) R g .counts) ≡ placesOf w p k plan (b .spread))
+    unfolding firstOf lastOf
+    two a d bs e f o =
+        let first : plan .a ≡ a = pl .a k ∙ ap (firstOf 0) e in
+        let last : plan .c ≡ lastOf d bs = pl .c k ∙ ap (lastOf 0) e in
+        rw (first, last)
+        (five-placed (w .n320) (w .n300) (w .n200) (w .n100) (w .n50) (given (has p 1) (k .n320)) (given (has p 2) (k .n300))
+        (given (has p 4) (k .n200)) (given (has p 8) (k .n100)) (given (has p 16) (k .n50)) a d bs e f (plan .target .0) R g (b .tried)
+        (b .dist .0) (b .spread .top .0) (b .spread .n300 .0) (b .spread .n200 .0) (b .spread .n100 .0) (b .spread .rest .0)
+        (rw (← first, ← last, ← pl .n300 (k .n300), ← pl .n200 (k .n200), ← pl .n100 (k .n100))
+        (o
+        ∙ three-fresh (plan .a) (plan .c) (plan .target .0) (middleOf (plan .n300)) (middleOf (plan .n200)) (middleOf (plan .n100)) R g fresh refl)))
 
-  module _ (falls : Falling 101 (absent w p)) (many : 2 ≤ blanks p) where
-    two : Two (absent w p)
-    two = two-more (absent w p) (omega (arith, blanks-missing w p))
-
-    falling : Falling 101 (two .a ∷ (two .b ∷ two .bs))
-    falling = subst (λ (l : List ℕ). Falling 101 l) (two .is) falls
-
-    first : plan .a ≡ two .a
-    first = pl .a ∙ two .first
-
-    last : plan .c ≡ lastOf (two .b) (two .bs)
-    last = pl .c ∙ two .last
-
-    -- what `search` asks
-    pub steady : Steady plan
-    steady =
-        record {
-          order = omega (arith, first, last, last-lt (two .a) (two .b) (two .bs) (falling .1 .0) (falling .1 .1));
-          n300 = subst (λ (m : Middle). Slot (plan .a) m) (sym (pl .n300)) (slot-good (plan .a) (plan .c) (w .n300) (given (has p 2) 0));
-          n200 = subst (λ (m : Middle). Slot (plan .a) m) (sym (pl .n200)) (slot-good (plan .a) (plan .c) (w .n200) (given (has p 4) 0));
-          n100 = subst (λ (m : Middle). Slot (plan .a) m) (sym (pl .n100)) (slot-good (plan .a) (plan .c) (w .n100) (given (has p 8) 0));
-        }
-
-    -- the plan's middles, with the numbers that are given
-    slots-of
-        : (k : HitResults)
-        → ms3 plan
-        ≡ slotOf (plan .a) (plan .c) (w .n300) (given (has p 2) (k .n300))
-        ∷ slotOf (plan .a) (plan .c) (w .n200) (given (has p 4) (k .n200))
-        ∷ slotOf (plan .a) (plan .c) (w .n100) (given (has p 8) (k .n100))
-        ∷ []
-    slots-of k =
-        ap₂ (λ (m : Middle) (l : List Middle). m ∷ l) (pl .n300 ∙ slot-number (plan .a) (plan .c) (w .n300) (has p 2) (k .n300))
-        (ap₂ (λ (m : Middle) (l : List Middle). m ∷ l) (pl .n200 ∙ slot-number (plan .a) (plan .c) (w .n200) (has p 4) (k .n200))
-        (ap (λ (m : Middle). m ∷ []) (pl .n100 ∙ slot-number (plan .a) (plan .c) (w .n100) (has p 8) (k .n100))))
-
-    module _ (b : BestCode) (o : view b ≡ settle (plan .target .0) (settings (plan .a) (plan .c) (plan .target .0) (ms3 plan) R g []) start) where
-      placed
-          : (k : HitResults)
-          → (b .tried ≡ walk (two .a ∷ (two .b ∷ two .bs)) (plan .target .0) R g .tried)
-          × (fill (givensOf p k) (walk (two .a ∷ (two .b ∷ two .bs)) (plan .target .0) R g .counts)
-          ≡ places (two .a) (lastOf (two .b) (two .bs)) (b .spread .top .0) (b .spread .rest .0) (weightsOf w) (givensOf p k)
-          (0 ∷ b .spread .n300 .0 ∷ b .spread .n200 .0 ∷ b .spread .n100 .0 ∷ 0 ∷ []))
-      placed k =
-          let T = plan .target .0 in
-          five-placed (w .n320) (w .n300) (w .n200) (w .n100) (w .n50) (given (has p 1) (k .n320)) (given (has p 2) (k .n300))
-          (given (has p 4) (k .n200)) (given (has p 8) (k .n100)) (given (has p 16) (k .n50)) (two .a) (two .b) (two .bs)
-          (absent-is w p k ∙ two .is) (falling .1) T R g (b .tried) (b .dist .0) (b .spread .top .0) (b .spread .n300 .0)
-          (b .spread .n200 .0) (b .spread .n100 .0) (b .spread .rest .0)
-          (o
-          ∙ ap (λ (l : List Middle). settle T (settings (plan .a) (plan .c) T l R g []) start) (slots-of k)
-          ∙ ap₂
-          (λ (x y : ℕ).
-          settle T
-          (settings x y T
-          (slotOf x y (w .n300) (given (has p 2) (k .n300))
-          ∷ slotOf x y (w .n200) (given (has p 4) (k .n200))
-          ∷ slotOf x y (w .n100) (given (has p 8) (k .n100))
-          ∷ [])
-          R g [])
-          start)
-          first last)
-
-      pub walked-many : Walked w p plan R g b
-      walked-many =
-          record {
-            tried =
-                placed (record { n320 = 0; n300 = 0; n200 = 0; n100 = 0; n50 = 0; misses = 0 }) .0
-                ∙ ap (λ (l : List ℕ). walk l (plan .target .0) R g .tried) (sym (two .is));
-            counts =
-                λ k.
-                ap₂
-                (λ (x y : ℕ).
-                places x y (b .spread .top .0) (b .spread .rest .0) (weightsOf w) (givensOf p k)
-                (0 ∷ b .spread .n300 .0 ∷ b .spread .n200 .0 ∷ b .spread .n100 .0 ∷ 0 ∷ []))
-                first last
-                ∙ sym (placed k .1)
-                ∙ ap (λ (l : List ℕ). fill (givensOf p k) (walk l (plan .target .0) R g .counts)) (sym (two .is));
-          }
-
--- points that fit: a weight of at most 100
-pub points-fit : (a R g : ℕ) → a ≤ 100 → g + 100 * R ≤ 20_000_000 → g + a * R ≤ 20_000_000
-points-fit a R g h l = omega (arith, mul-le-mul-right R h)
+    pub chosen
+        : (us : List ℕ) → missing (weightsOf w) (givensOf p k) ≡ us → Falling (suc mostWeight) us
+        → view b ≡ settle (plan .target .0) (candidatesOf (length us) plan R g) fresh
+        → (b .tried ≡ walk us (plan .target .0) R g .tried)
+        × (fill (givensOf p k) (walk us (plan .target .0) R g .counts) ≡ placesOf w p k plan (b .spread))
+    unfolding walk candidates settle start over offer better trial firstOf
+    chosen [] e f o = (
+      ap (λ (z : Best). z .tried) o,
+      none-placed (plan .a) (plan .c) (b .spread .top .0) (b .spread .rest .0)
+          (0 ∷ b .spread .n300 .0 ∷ b .spread .n200 .0 ∷ b .spread .n100 .0 ∷ 0 ∷ []) (weightsOf w) (givensOf p k) refl refl e,
+    )
+    chosen (a ∷ []) e f o =
+        let top : b .spread .top .0 ≡ R = head-eq-of-cons-eq (ap (λ (z : Best). z .counts) o) in (
+          ap (λ (z : Best). z .tried) o,
+          rw (← top)
+              (one-placed (plan .a) (plan .c) (b .spread .top .0) (b .spread .rest .0)
+              (0 ∷ b .spread .n300 .0 ∷ b .spread .n200 .0 ∷ b .spread .n100 .0 ∷ 0 ∷ []) (weightsOf w) (givensOf p k) refl refl
+              (e ∙ ap (λ (z : ℕ). z ∷ []) (sym (pl .a k ∙ ap (firstOf 0) e)))),
+        )
+    chosen (a ∷ (d ∷ bs)) e f o = two a d bs e (f .1) o

@@ -1,38 +1,44 @@
 // Nearest (document 01; not the repository's): of all splits the one whose points lie nearest to the rounded target.
 ghost use mathlib.Core.Path.{_≡_};
-ghost use mathlib.Core.List.{[]};
-ghost use mathlib.Core.Bool.{cond, not, _&&_, _||_};
+ghost use mathlib.Core.Bool.{false, not, _&&_, _||_};
 ghost use lib.Dec.{eqb, ltb};
-ghost use Prim.Native.Nat.{ℕ, _+_, _*_, _<_, _≤_, _/_, _%_, _-_, min};
-ghost use Rattle.score_state.specs.Points.{weightsOf, countsOf};
-ghost use Rattle.inspect.specs.Presence.{has, given};
+ghost use Prim.Native.Nat.{ℕ, suc, _+_, _*_, _<_, _≤_, _-_, min};
+ghost use Rattle.score_state.specs.Limits.{most32, mostWeight};
+ghost use Rattle.score_state.specs.Points.{weightsOf};
+ghost use Rattle.score_state.specs.Given.{missing};
+ghost use Rattle.score_state.specs.declared.HitResults as Counts;
+ghost use Rattle.inspect.specs.Presence.{has, given, givensOf, lacking};
 ghost use Rattle.nearest_laws.specs.Walk as Walk;
-ghost use Rattle.nearest_laws.specs.Nearest.{nearestAnswer};
+ghost use Rattle.nearest_laws.specs.Nearest as Nearest;
 ghost use Rattle.nearest_laws.specs.Places.{slotOf, placeOf};
-ghost use Rattle.nearest.specs.Code.{view, tryOf, trialOf, settingsOf, hs0, hs1, hs2, hs3, ms0, ms1, ms2, ms3, middleOf, Steady, Room, Ready};
-ghost use Rattle.nearest.specs.Presence.{givensOf, shownOf, absent, firstOf, foldedOf, blanks, fillingOf, Planned, placesOf, Walked, Apart, walkedOf, foundOf, answerOf, Ask};
+ghost use Rattle.nearest.specs.Code.{view, fresh, tryOf, trialOf, setOf, middleOf, bothOf, eachN100, eachN200, eachN300, candidatesOf, PointsFit, Ready, Walkable};
+ghost use Rattle.nearest.specs.Presence.{firstOf, foldedOf, Planned, placesOf, walkedOf};
+ghost use Rattle.nearest.specs.Outcome.{fiveOf, givenFive, foundOf, outcomeOf, Ask};
+use inspect::Missing;
 use score_state::HitResults;
 use score_state::Hits;
 use score_state::Points;
 use score_state::Weights;
 
-// Five counts and how many candidates the walk tried. The misses are no part of Nearest: they are 0 here.
+// Five numbers of hits, from n320 to n50. The misses are no part of Nearest.
+pub struct Five {
+    pub n320: Hits,
+    pub n300: Hits,
+    pub n200: Hits,
+    pub n100: Hits,
+    pub n50: Hits,
+}
+
+// Five counts, and how many candidates the walk tried.
 pub struct Split {
-    pub counts: HitResults,
+    pub counts: Five,
     pub tried: u32,
 }
 
-// What Nearest answers: a split, or that there is none (14).
+// What Nearest answers: a split, or that there is none.
 pub enum Outcome {
     Found(Split),
     NoSplit,
-}
-
-// What fills the missing judgements: nothing where none is missing, all hits that are left where one is, or the walk.
-pub enum Filling {
-    Nothing,
-    Single,
-    Walk,
 }
 
 // A middle: its weight and its q. A place that is no middle has weight 0 and q 1, so that it is walked once, with count 0.
@@ -76,62 +82,92 @@ pub struct Best {
     pub spread: Spread,
 }
 
-// The whole division under the walk: how many steps of a − c points fit into D.
-fn steps_in(d: Points, step: u32) -> Hits
-    requires { ⌜ 0 < step ⌝ }
-    ensures { λ r. ⌜ r .0 ≡ d .0 / step ⌝ }
-{
-    Hits(d.0 / step)
-}
-
 // lo: the most hits at a that stay at or below the target, 0 where none does.
 fn lowest(plan: Plan, at: Setting) -> Hits
-    requires { ⌜ Room plan at ⌝ }
+    requires { ⌜ (plan .c < plan .a) × PointsFit plan at ⌝ }
     ensures { λ r. ⌜ r .0 ≡ Walk.lowest (plan .a) (plan .c) (plan .target .0) (at .left .0) (at .points .0) ⌝ }
 {
     let left = at.left;
-    let points = at.points;
-    let target = plan.target;
-    let base = points.0 + plan.c * left.0;
-    if target.0 < base {
+    let base = at.points.plus(left.times(plan.c));
+    if plan.target.less(base) {
         return Hits(0);
     }
-    let n = steps_in(Points(target.0 - base), plan.a - plan.c);
-    if n.0 < left.0 { n } else { left }
+    let steps = plan.target.saturating_sub(base).steps(plan.a - plan.c);
+    steps.count.least(left)
 }
 
-// The last count of a middle: min(q − 1, hits left).
-fn last_count(middle: Middle, left: Hits) -> u32
-    requires { ⌜ 0 < middle .q ⌝ }
-    ensures { λ r. ⌜ r ≡ min (middle .q - 1) (left .0) ⌝ }
-{
-    if left.0 < middle.q {
-        left.0
-    } else {
-        middle.q - 1
+impl Middle {
+    // How many counts a middle takes: from 0 to min(q − 1, hits left).
+    fn turns(self, left: Hits) -> Hits
+        requires { ⌜ 0 < self .q ⌝ }
+        ensures { λ r. ⌜ r .0 ≡ suc (min (self .q - 1) (left .0)) ⌝ }
+    {
+        Hits(self.q - 1).least(left).plus(Hits(1))
+    }
+}
+
+impl Setting {
+    // What k hits at a middle leave; its count is put in its place by the caller.
+    fn set(self, middle: Middle, k: Hits) -> Setting
+        requires { ⌜ (k .0 ≤ self .left .0) × (self .points .0 + middle .weight * k .0 ≤ most32) ⌝ }
+        ensures { λ r. ⌜ r ≡ setOf self middle (k .0) ⌝ }
+    {
+        let n300 = self.n300;
+        let n200 = self.n200;
+        let n100 = self.n100;
+        Setting {
+            left: self.left.minus(k),
+            points: self.points.plus(k.times(middle.weight)),
+            n300: n300,
+            n200: n200,
+            n100: n100,
+        }
     }
 }
 
 impl Best {
+    // A walk that has tried nothing.
+    fn fresh() -> Best
+        ensures { λ r. ⌜ view r ≡ fresh ⌝ }
+    {
+        let none = Hits(0);
+        Best {
+            tried: 0,
+            dist: Points(0),
+            spread: Spread {
+                top: none,
+                n300: none,
+                n200: none,
+                n100: none,
+                rest: none,
+            },
+        }
+    }
+
     // A distance of 0 ends the walk.
     fn over(self) -> bool
         ensures { λ r. ⌜ r ≡ Walk.over (view self) ⌝ }
     {
-        let d = self.dist;
-        0 < self.tried && d.0 == 0
+        0 < self.tried && self.dist.is_zero()
     }
 
-    // A candidate takes the place of the best at the first, and where it is nearer.
+    // A candidate is better than none, and where it is nearer.
+    fn better(self, dist: Points) -> bool
+        ensures { λ r. ⌜ r ≡ Walk.better (view self) (dist .0) ⌝ }
+    {
+        self.tried == 0 || dist.less(self.dist)
+    }
+
+    // A better candidate takes the place of the best.
     fn offer(mut self, spread: Spread, points: Points, target: Points) -> Best
-        requires { ⌜ self .tried < 4000000000 ⌝ }
+        requires { ⌜ self .tried < most32 ⌝ }
         ensures { λ r. ⌜ view r ≡ Walk.offer (target .0) (tryOf spread points) (view self) ⌝ }
     {
-        let d = points.gap(target);
-        let old = self.dist;
-        let fresh = self.tried == 0;
+        let dist = points.gap(target);
+        let better = self.better(dist);
         self.tried += 1;
-        if fresh || d.0 < old.0 {
-            self.dist = d;
+        if better {
+            self.dist = dist;
             self.spread = spread;
         }
         self
@@ -139,17 +175,14 @@ impl Best {
 
     // The candidate with `top` hits at a and the rest at c.
     fn attempt(self, plan: Plan, at: Setting, top: Hits) -> Best
-        requires { ⌜ Room plan at × (top .0 ≤ at .left .0) × (self .tried < 4000000000) ⌝ }
+        requires { ⌜ (plan .c ≤ plan .a) × PointsFit plan at × (top .0 ≤ at .left .0) × (self .tried < most32) ⌝ }
         ensures { λ r. ⌜ view r ≡ Walk.offer (plan .target .0) (trialOf plan at (top .0)) (view self) ⌝ }
     {
-        let left = at.left;
-        let points = at.points;
-        let target = plan.target;
         let n300 = at.n300;
         let n200 = at.n200;
         let n100 = at.n100;
-        let rest = Hits(left.0 - top.0);
-        let all = Points(points.0 + plan.a * top.0 + plan.c * rest.0);
+        let rest = at.left.minus(top);
+        let all = at.points.plus(top.times(plan.a)).plus(rest.times(plan.c));
         self.offer(
             Spread {
                 top: top,
@@ -159,157 +192,85 @@ impl Best {
                 rest: rest,
             },
             all,
-            target,
+            plan.target,
         )
     }
 
     // Both candidates of a setting: lo, then lo + 1.
     fn both(self, plan: Plan, at: Setting) -> Best
-        requires { ⌜ Room plan at × Ready plan (settingsOf plan at (ms0 plan) (hs3 at)) self ⌝ }
-        ensures { λ r. ⌜ view r ≡ Walk.settle (plan .target .0) (settingsOf plan at (ms0 plan) (hs3 at)) (view self) ⌝ }
+        requires { ⌜ PointsFit plan at × Ready plan (bothOf plan at) self × (Walk.over (view self) ≡ false) ⌝ }
+        ensures { λ r. ⌜ view r ≡ Walk.settle (plan .target .0) (bothOf plan at) (view self) ⌝ }
     {
-        if self.over() {
-            return self;
-        }
         let lo = lowest(plan, at);
-        let left = at.left;
         let next = self.attempt(plan, at, lo);
         if next.over() {
             return next;
         }
-        if lo.0 < left.0 {
-            return next.attempt(plan, at, Hits(lo.0 + 1));
+        if lo.less(at.left) {
+            return next.attempt(plan, at, lo.plus(Hits(1)));
         }
         next
     }
 
-    // The counts of the lightest middle, from 0 up.
+    // The counts of the place of n100, from 0 up.
     fn each_n100(self, plan: Plan, at: Setting) -> Best
-        requires { ⌜ Room plan at × Ready plan (settingsOf plan at (ms1 plan) (hs2 at)) self ⌝ }
-        ensures { λ r. ⌜ view r ≡ Walk.settle (plan .target .0) (settingsOf plan at (ms1 plan) (hs2 at)) (view self) ⌝ }
+        requires { ⌜ PointsFit plan at × Ready plan (eachN100 plan at) self ⌝ }
+        ensures { λ r. ⌜ view r ≡ Walk.settle (plan .target .0) (eachN100 plan at) (view self) ⌝ }
     {
-        let left = at.left;
-        let points = at.points;
-        let n300 = at.n300;
-        let n200 = at.n200;
-        let middle = plan.n100;
-        let top = last_count(middle, left);
+        let turns = plan.n100.turns(at.left);
         let mut best = self;
-        let mut k: u32 = 0;
-        while k <= top {
+        let mut k = Hits(0);
+        while k.less(turns) {
             if best.over() {
                 return best;
             }
-            let l = left.0 - k;
-            let p = points.0 + middle.weight * k;
-            let here = Setting {
-                left: Hits(l),
-                points: Points(p),
-                n300: n300,
-                n200: n200,
-                n100: Hits(k),
-            };
+            let mut here = at.set(plan.n100, k);
+            here.n100 = k;
             best = best.both(plan, here);
-            k += 1;
+            k = k.plus(Hits(1));
         }
         best
     }
 
     // The counts of the place of n200.
     fn each_n200(self, plan: Plan, at: Setting) -> Best
-        requires { ⌜ Room plan at × Ready plan (settingsOf plan at (ms2 plan) (hs1 at)) self ⌝ }
-        ensures { λ r. ⌜ view r ≡ Walk.settle (plan .target .0) (settingsOf plan at (ms2 plan) (hs1 at)) (view self) ⌝ }
+        requires { ⌜ PointsFit plan at × Ready plan (eachN200 plan at) self ⌝ }
+        ensures { λ r. ⌜ view r ≡ Walk.settle (plan .target .0) (eachN200 plan at) (view self) ⌝ }
     {
-        let left = at.left;
-        let points = at.points;
-        let n300 = at.n300;
-        let middle = plan.n200;
-        let top = last_count(middle, left);
+        let turns = plan.n200.turns(at.left);
         let mut best = self;
-        let mut k: u32 = 0;
-        while k <= top {
+        let mut k = Hits(0);
+        while k.less(turns) {
             if best.over() {
                 return best;
             }
-            let l = left.0 - k;
-            let p = points.0 + middle.weight * k;
-            let here = Setting {
-                left: Hits(l),
-                points: Points(p),
-                n300: n300,
-                n200: Hits(k),
-                n100: Hits(0),
-            };
+            let mut here = at.set(plan.n200, k);
+            here.n200 = k;
             best = best.each_n100(plan, here);
-            k += 1;
+            k = k.plus(Hits(1));
         }
         best
     }
 
     // The counts of the place of n300, outermost.
     fn each_n300(self, plan: Plan, at: Setting) -> Best
-        requires { ⌜ Room plan at × Ready plan (settingsOf plan at (ms3 plan) (hs0 at)) self ⌝ }
-        ensures { λ r. ⌜ view r ≡ Walk.settle (plan .target .0) (settingsOf plan at (ms3 plan) (hs0 at)) (view self) ⌝ }
+        requires { ⌜ PointsFit plan at × Ready plan (eachN300 plan at) self ⌝ }
+        ensures { λ r. ⌜ view r ≡ Walk.settle (plan .target .0) (eachN300 plan at) (view self) ⌝ }
     {
-        let left = at.left;
-        let points = at.points;
-        let middle = plan.n300;
-        let top = last_count(middle, left);
+        let turns = plan.n300.turns(at.left);
         let mut best = self;
-        let mut k: u32 = 0;
-        while k <= top {
+        let mut k = Hits(0);
+        while k.less(turns) {
             if best.over() {
                 return best;
             }
-            let l = left.0 - k;
-            let p = points.0 + middle.weight * k;
-            let here = Setting {
-                left: Hits(l),
-                points: Points(p),
-                n300: Hits(k),
-                n200: Hits(0),
-                n100: Hits(0),
-            };
+            let mut here = at.set(plan.n300, k);
+            here.n300 = k;
             best = best.each_n200(plan, here);
-            k += 1;
+            k = k.plus(Hits(1));
         }
         best
     }
-}
-
-// A walk over all places that has tried nothing.
-fn fresh() -> Best
-    ensures { λ r. ⌜ (r .tried ≡ 0) × (r .dist .0 ≡ 0) ⌝ }
-{
-    let none = Hits(0);
-    Best {
-        tried: 0,
-        dist: Points(0),
-        spread: Spread {
-            top: none,
-            n300: none,
-            n200: none,
-            n100: none,
-            rest: none,
-        },
-    }
-}
-
-// The whole walk: the hits to give and the points of the given counts.
-fn search(plan: Plan, left: Hits, points: Points) -> Best
-    requires { ⌜ Steady plan × (plan .a ≤ 100) × (points .0 + plan .a * left .0 < 4000000000) ⌝ }
-    ensures { λ r. ⌜ view r ≡ Walk.settle (plan .target .0) (Walk.settings (plan .a) (plan .c) (plan .target .0) (ms3 plan) (left .0) (points .0) []) Walk.start ⌝ }
-{
-    let none = Hits(0);
-    let at = Setting {
-        left: left,
-        points: points,
-        n300: none,
-        n200: none,
-        n100: none,
-    };
-    let start = fresh();
-    start.each_n300(plan, at)
 }
 
 // Euclid's greatest common divisor.
@@ -335,71 +296,48 @@ fn stride(a: u32, c: u32, b: u32) -> u32
     w / gcd(w, b - c)
 }
 
-// One of two numbers, as the count with this place value is missing or given.
-fn pick(presence: u8, place: u8, missing: u32, given: u32) -> u32
-    requires { ⌜ 0 < place ⌝ }
-    ensures { λ r. ⌜ r ≡ cond (has presence place) given missing ⌝ }
-{
-    if inspect::is_given(presence, place) {
-        given
-    } else {
-        missing
-    }
-}
-
-// The given counts, with 0 for those that are missing.
-fn shown(presence: u8, given: HitResults) -> HitResults
-    ensures { λ r. ⌜ r ≡ shownOf presence given ⌝ }
-{
-    HitResults {
-        n320: pick(presence, 1, 0, given.n320),
-        n300: pick(presence, 2, 0, given.n300),
-        n200: pick(presence, 4, 0, given.n200),
-        n100: pick(presence, 8, 0, given.n100),
-        n50: pick(presence, 16, 0, given.n50),
-        misses: 0,
-    }
-}
-
 // Step 1: where n320 and n300 weigh the same and both are missing, n300 counts as given.
 fn folded(weights: Weights, presence: u8) -> u8
     ensures { λ r. ⌜ r ≡ foldedOf weights presence ⌝ }
 {
+    if inspect::is_given(presence, inspect::N320) {
+        return presence;
+    }
+    if inspect::is_given(presence, inspect::N300) {
+        return presence;
+    }
     if weights.n320 != weights.n300 {
         return presence;
     }
-    if presence % 4 != 0 {
-        return presence;
-    }
-    presence + 2
+    presence + inspect::N300
 }
 
 // The heaviest missing weight, 0 where none is missing.
 fn heaviest(weights: Weights, presence: u8) -> u32
-    ensures { λ r. ⌜ r ≡ firstOf 0 (absent weights presence) ⌝ }
+    ensures { λ r. ⌜ ((g : Counts.HitResults) → r ≡ firstOf 0 (missing (weightsOf weights) (givensOf presence g))) ⌝ }
 {
-    let n50 = pick(presence, 16, weights.n50, 0);
-    let n100 = pick(presence, 8, weights.n100, n50);
-    let n200 = pick(presence, 4, weights.n200, n100);
-    let n300 = pick(presence, 2, weights.n300, n200);
-    pick(presence, 1, weights.n320, n300)
+    let n50 = inspect::pick(presence, inspect::N50, weights.n50, 0);
+    let n100 = inspect::pick(presence, inspect::N100, weights.n100, n50);
+    let n200 = inspect::pick(presence, inspect::N200, weights.n200, n100);
+    let n300 = inspect::pick(presence, inspect::N300, weights.n300, n200);
+    inspect::pick(presence, inspect::N320, weights.n320, n300)
 }
 
 // The lightest missing weight, 0 where none is missing.
 fn lightest(weights: Weights, presence: u8) -> u32
-    ensures { λ r. ⌜ r ≡ Walk.lastOf 0 (absent weights presence) ⌝ }
+    ensures { λ r. ⌜ ((g : Counts.HitResults) → r ≡ Walk.lastOf 0 (missing (weightsOf weights) (givensOf presence g))) ⌝ }
 {
-    let n320 = pick(presence, 1, weights.n320, 0);
-    let n300 = pick(presence, 2, weights.n300, n320);
-    let n200 = pick(presence, 4, weights.n200, n300);
-    let n100 = pick(presence, 8, weights.n100, n200);
-    pick(presence, 16, weights.n50, n100)
+    let n320 = inspect::pick(presence, inspect::N320, weights.n320, 0);
+    let n300 = inspect::pick(presence, inspect::N300, weights.n300, n320);
+    let n200 = inspect::pick(presence, inspect::N200, weights.n200, n300);
+    let n100 = inspect::pick(presence, inspect::N100, weights.n100, n200);
+    inspect::pick(presence, inspect::N50, weights.n50, n100)
 }
 
 // What stands at a place: a middle where its count is missing and its weight lies between a and c.
 fn middle_at(presence: u8, place: u8, weight: u32, a: u32, c: u32) -> Middle
     requires { ⌜ 0 < place ⌝ }
-    ensures { λ r. ⌜ middleOf r ≡ slotOf a c weight (given (has presence place) 0) ⌝ }
+    ensures { λ r. ⌜ ((n : ℕ) → middleOf r ≡ slotOf a c weight (given (has presence place) n)) ⌝ }
 {
     let idle = Middle { weight: 0, q: 1 };
     if inspect::is_given(presence, place) {
@@ -419,156 +357,174 @@ fn middle_at(presence: u8, place: u8, weight: u32, a: u32, c: u32) -> Middle
 
 // The plan of the walk for the missing judgements.
 fn plan_of(weights: Weights, presence: u8, target: Points) -> Plan
-    ensures { λ r. ⌜ Planned weights presence r × (r .target ≡ target) ⌝ }
+    ensures { λ r. ⌜ Planned weights presence target r ⌝ }
 {
     let a = heaviest(weights, presence);
     let c = lightest(weights, presence);
     Plan {
         a: a,
         c: c,
-        n300: middle_at(presence, 2, weights.n300, a, c),
-        n200: middle_at(presence, 4, weights.n200, a, c),
-        n100: middle_at(presence, 8, weights.n100, a, c),
+        n300: middle_at(presence, inspect::N300, weights.n300, a, c),
+        n200: middle_at(presence, inspect::N200, weights.n200, a, c),
+        n100: middle_at(presence, inspect::N100, weights.n100, a, c),
         target: target,
     }
 }
 
-// The five-bit presence chooses what fills the missing judgements.
-fn filling_of(presence: u8) -> Filling
-    ensures { λ r. ⌜ r ≡ fillingOf (blanks presence) ⌝ }
+// The best of the candidates: none where nothing is missing, all hits that are left where one is, or the walk's.
+fn best_of(presence: u8, plan: Plan, remain_hits: Hits, points: Points) -> Best
+    requires { ⌜ Walkable (lacking presence) plan («remain_hits» .0) (points .0) ⌝ }
+    ensures { λ r. ⌜ view r ≡ Walk.settle (plan .target .0) (candidatesOf (lacking presence) plan («remain_hits» .0) (points .0)) fresh ⌝ }
 {
-    match presence % 32 {
-        31 => Filling::Nothing,
-        15 | 23 | 27 | 29 | 30 => Filling::Single,
-        _ => Filling::Walk,
-    }
-}
-
-// The best counts for the missing judgements.
-fn best_of(weights: Weights, presence: u8, plan: Plan, left: Hits, points: Points) -> Best
-    requires { ⌜ Planned weights presence plan × Apart weights presence (left .0) (points .0) ⌝ }
-    ensures { λ r. ⌜ Walked weights presence plan (left .0) (points .0) r ⌝ }
-{
-    let start = fresh();
-    let target = plan.target;
     let none = Hits(0);
-    let filling = filling_of(presence);
-    match filling {
-        Filling::Nothing => start,
-        Filling::Single => {
-            let all = Points(points.0 + plan.a * left.0);
-            start.offer(
-                Spread {
-                    top: left,
-                    n300: none,
-                    n200: none,
-                    n100: none,
-                    rest: none,
-                },
-                all,
-                target,
-            )
-        }
-        Filling::Walk => search(plan, left, points),
+    let at = Setting {
+        left: remain_hits,
+        points: points,
+        n300: none,
+        n200: none,
+        n100: none,
+    };
+    let start = Best::fresh();
+    match inspect::missing_of(presence) {
+        Missing::Nothing => start,
+        Missing::One => start.attempt(plan, at, remain_hits),
+        Missing::Two | Missing::ThreePlus => start.each_n300(plan, at),
     }
 }
 
 // The count at a place: the given one, that of a, that of c, or the middle's.
-fn place_of(plan: Plan, spread: Spread, held: bool, weight: u32, count: u32, middle: Hits) -> u32
-    ensures { λ r. ⌜ r ≡ placeOf (plan .a) (plan .c) (spread .top .0) (spread .rest .0) weight (given held count) (middle .0) ⌝ }
-{
-    if held {
-        return count;
-    }
-    if weight == plan.a {
-        return spread.top.0;
-    }
-    if weight == plan.c {
-        return spread.rest.0;
-    }
-    middle.0
-}
-
-// The best's counts at their places, the given ones among them.
-fn placed(
-    weights: Weights,
-    presence: u8,
-    known: HitResults,
+fn place_of(
     plan: Plan,
     spread: Spread,
-) -> HitResults
-    ensures { λ r. ⌜ countsOf r ≡ placesOf weights presence known plan spread ⌝ }
+    presence: u8,
+    place: u8,
+    weight: u32,
+    count: u32,
+    middle: Hits,
+) -> Hits
+    requires { ⌜ 0 < place ⌝ }
+    ensures { λ r. ⌜ r .0 ≡ placeOf (plan .a) (plan .c) (spread .top .0) (spread .rest .0) weight (given (has presence place) count) (middle .0) ⌝ }
 {
+    if inspect::is_given(presence, place) {
+        return Hits(count);
+    }
+    if weight == plan.a {
+        return spread.top;
+    }
+    if weight == plan.c {
+        return spread.rest;
+    }
+    middle
+}
+
+// A candidate's counts at their places, the given ones among them.
+fn placed(weights: Weights, presence: u8, known: HitResults, plan: Plan, spread: Spread) -> Five
+    ensures { λ r. ⌜ fiveOf r ≡ placesOf weights presence known plan spread ⌝ }
+{
+    let p = presence;
     let none = Hits(0);
-    let n300 = spread.n300;
-    let n200 = spread.n200;
-    let n100 = spread.n100;
-    let has_n320 = inspect::is_given(presence, 1);
-    let has_n300 = inspect::is_given(presence, 2);
-    let has_n200 = inspect::is_given(presence, 4);
-    let has_n100 = inspect::is_given(presence, 8);
-    let has_n50 = inspect::is_given(presence, 16);
-    HitResults {
-        n320: place_of(plan, spread, has_n320, weights.n320, known.n320, none),
-        n300: place_of(plan, spread, has_n300, weights.n300, known.n300, n300),
-        n200: place_of(plan, spread, has_n200, weights.n200, known.n200, n200),
-        n100: place_of(plan, spread, has_n100, weights.n100, known.n100, n100),
-        n50: place_of(plan, spread, has_n50, weights.n50, known.n50, none),
-        misses: 0,
+    Five {
+        n320: place_of(
+            plan,
+            spread,
+            p,
+            inspect::N320,
+            weights.n320,
+            known.n320,
+            none,
+        ),
+        n300: place_of(
+            plan,
+            spread,
+            p,
+            inspect::N300,
+            weights.n300,
+            known.n300,
+            spread.n300,
+        ),
+        n200: place_of(
+            plan,
+            spread,
+            p,
+            inspect::N200,
+            weights.n200,
+            known.n200,
+            spread.n200,
+        ),
+        n100: place_of(
+            plan,
+            spread,
+            p,
+            inspect::N100,
+            weights.n100,
+            known.n100,
+            spread.n100,
+        ),
+        n50: place_of(plan, spread, p, inspect::N50, weights.n50, known.n50, none),
     }
 }
 
-// Steps 2 to 4: the split that the walk finds, with `left` hits to give and `points` of the given counts.
+// Steps 2 to 4: the split that the walk finds, with the hits to give and the points of the given counts.
 fn found(
     weights: Weights,
     presence: u8,
     known: HitResults,
-    left: Hits,
+    remain_hits: Hits,
     points: Points,
     target: Points,
 ) -> Split
-    requires { ⌜ Apart weights presence (left .0) (points .0) ⌝ }
-    ensures { λ r. ⌜ foundOf r ≡ walkedOf weights presence known (left .0) (points .0) (target .0) ⌝ }
+    requires { ⌜ Walk.Falling (suc mostWeight) (missing (weightsOf weights) (givensOf presence known)) × (points .0 + mostWeight * «remain_hits» .0 ≤ most32) ⌝ }
+    ensures { λ r. ⌜ foundOf r ≡ walkedOf (weightsOf weights) (givensOf presence known) (target .0) («remain_hits» .0) (points .0) ⌝ }
 {
     let plan = plan_of(weights, presence, target);
-    let best = best_of(weights, presence, plan, left, points);
-    let spread = best.spread;
-    let counts = placed(weights, presence, known, plan, spread);
+    let best = best_of(presence, plan, remain_hits, points);
     Split {
-        counts: counts,
+        counts: placed(weights, presence, known, plan, best.spread),
         tried: best.tried,
     }
 }
 
 // Check 14: the given sum is over remain, or five are given and their sum is not remain.
-fn no_split(presence: u8, held: Hits, remain: Hits) -> bool
-    ensures { λ r. ⌜ r ≡ (ltb (remain .0) (held .0) || (eqb (presence % 32) 31 && not (eqb (held .0) (remain .0)))) ⌝ }
+fn no_split(presence: u8, sum: Hits, remain: Hits) -> bool
+    ensures { λ r. ⌜ r ≡ (ltb (remain .0) (sum .0) || (eqb (lacking presence) 0 && not (eqb (sum .0) (remain .0)))) ⌝ }
 {
-    if remain.0 < held.0 {
+    if remain.less(sum) {
         return true;
     }
-    presence % 32 == 31 && held.0 != remain.0
+    match inspect::missing_of(presence) {
+        Missing::Nothing => sum.less(remain),
+        _ => false,
+    }
 }
 
-// Nearest: bits 1, 2, 4, 8, 16 of presence say which of n320 to n50 are given; a missing count's number is not looked at, nor are
-// the misses. Higher bits of presence are not looked at.
-pub fn nearest(
-    weights: Weights,
-    presence: u8,
-    given: HitResults,
-    remain: Hits,
-    target: Points,
-) -> Outcome
-    requires { ⌜ Ask weights presence given remain target ⌝ }
-    ensures { λ r. ⌜ answerOf r ≡ nearestAnswer (weightsOf weights) (givensOf presence given) (target .0) (remain .0) ⌝ }
+// Nearest: bits N320 to N50 of presence say which of the five are given. A missing one's number is not looked at, nor are higher
+// bits of presence.
+pub fn nearest(weights: Weights, presence: u8, given: Five, remain: Hits, target: Points) -> Outcome
+    requires { ⌜ Ask weights presence given remain ⌝ }
+    ensures { λ r. ⌜ outcomeOf r ≡ Nearest.nearest (weightsOf weights) (givenFive presence given) (target .0) (remain .0) ⌝ }
 {
-    let known = shown(presence, given);
-    let held = score_state::total_hits(known);
-    if no_split(presence, held, remain) {
+    let none = Hits(0);
+    let five = HitResults::of(
+        given.n320,
+        given.n300,
+        given.n200,
+        given.n100,
+        given.n50,
+        none,
+    );
+    let known = inspect::unwrap_or_zero(presence, five);
+    let sum = score_state::total_hits(known);
+    if no_split(presence, sum, remain) {
         return Outcome::NoSplit;
     }
     let points = score_state::points_of(weights, known);
-    let left = Hits(remain.0 - held.0);
-    let five = folded(weights, presence);
-    Outcome::Found(found(weights, five, known, left, points, target))
+    let remain_hits = remain.minus(sum);
+    Outcome::Found(found(
+        weights,
+        folded(weights, presence),
+        known,
+        remain_hits,
+        points,
+        target,
+    ))
 }

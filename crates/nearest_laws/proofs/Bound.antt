@@ -1,13 +1,13 @@
 -- tried is at most 2 times the product of the q's.
 use Prim.Native.Nat.{ℕ, zero, suc, _+_, _-_, _*_, _<_, _≤_, min}
-use mathlib.Core.Path.{_≡_, refl, ap}
+use mathlib.Core.Path.{_≡_, refl}
 use mathlib.Core.Bool.{Bool, true, false, cond}
 use mathlib.Core.List.{List, [], _∷_, _++_}
 use lib.Dec.{ltb}
 use lib.ListN.{length, length-append}
 use native.Mathlib.Nat.{le-trans, suc-mul, mul-le-mul-right, mul-left-comm}
 use native.Mathlib.Omega.{arith}
-use Rattle.nearest_laws.specs.Walk.{Middle, Try, Best, stride, start, over, offer, settle, rows, lowest, trial, pair, settings, lastOf, initOf, middles, middlesOf, product, candidates, walk, Falling, Falls}
+use Rattle.nearest_laws.specs.Walk.{Middle, Try, Best, start, over, offer, settle, rows, lowest, trial, pair, settings, lastOf, initOf, middles, middlesOf, product, candidates, walk, Falling, Falls}
 use Rattle.nearest_laws.proofs.Exchange.{stride-pos}
 use Rattle.nearest_laws.proofs.Near.{last-lt, offer-tried}
 

@@ -2,9 +2,9 @@
 use Prim.Native.Nat.{ℕ, _*_, _<_, _≤_}
 use mathlib.Core.Path.{_≡_, refl}
 use mathlib.Core.List.{[], _∷_}
-use lib.ListN.{length}
 use native.Mathlib.Nat.{mul-le-mul}
 use native.Mathlib.Omega.{arith}
+use Rattle.score_state.specs.Limits.{most32, mostWeight}
 use Rattle.nearest_laws.specs.Walk.{Middle, Best, start, settle, settings, product}
 use Rattle.nearest_laws.specs.Places.{Slot}
 use Rattle.nearest_laws.proofs.Near.{settings-some}
@@ -12,7 +12,7 @@ use Rattle.nearest_laws.proofs.Bound.{settle-tried, settings-length}
 use Rattle.nearest_laws.proofs.Steps.{settle-fresh}
 
 module _ (a c T : ℕ) (x y z : Middle) (r g : ℕ) (s : Best) (fresh : s .tried ≡ 0) where
-  three-product : a ≤ 100 → Slot a x → Slot a y → Slot a z → product (x ∷ y ∷ z ∷ []) ≤ 101 * (101 * (101 * 1))
+  three-product : a ≤ mostWeight → Slot a x → Slot a y → Slot a z → product (x ∷ y ∷ z ∷ []) ≤ 101 * (101 * (101 * 1))
   unfolding product
   three-product h i j k =
       let e : x .q ≤ 101 = omega (arith, i .few) in
@@ -22,8 +22,8 @@ module _ (a c T : ℕ) (x y z : Middle) (r g : ℕ) (s : Best) (fresh : s .tried
       mul-le-mul e (mul-le-mul f l)
 
   pub three-count
-      : a ≤ 100 → Slot a x → Slot a y → Slot a z
-      → settle T (settings a c T (x ∷ y ∷ z ∷ []) r g []) s .tried < 4000000000
+      : a ≤ mostWeight → Slot a x → Slot a y → Slot a z
+      → settle T (settings a c T (x ∷ y ∷ z ∷ []) r g []) s .tried < most32
   three-count h i j k =
       omega (
         arith,

@@ -68,11 +68,3 @@ found ws gs T remain =
 -- the answer, or none where check 14 stops the query
 unfoldable pub nearest : List ℕ → List (Option ℕ) → ℕ → ℕ → Option Found
 nearest ws gs T remain = let r = found ws gs T remain in cond (stops gs remain) none (some r)
-
--- An answer as document 01 gives it: its number, 0 or 14, and its values.
-pub record Answer : Type 0 where
-  pub status : ℕ
-  pub found : Option Found
-
-unfoldable pub nearestAnswer : List ℕ → List (Option ℕ) → ℕ → ℕ → Answer
-nearestAnswer ws gs T remain = record { status = cond (stops gs remain) 14 0; found = nearest ws gs T remain }

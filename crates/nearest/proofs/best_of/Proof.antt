@@ -1,87 +1,69 @@
--- `best_of`: each filling is the walk.
-use mathlib.Core.Path.{sym, _∙_}
+-- `best_of`: each arm tries the candidates of so many missing judgements.
+use Prim.Native.Nat.{_≤_}
+use mathlib.Core.Path.{_≡_, sym, ap, _∙_}
 use native.Mathlib.Omega.{arith}
 use borrow.Author.Needs.{needs}
-use Rattle.nearest.specs.Presence.{absent}
-use Rattle.nearest.specs.Presence.{blanks}
-use Rattle.nearest.proofs.Arms.{is-nothing, is-single, is-walk}
-use Rattle.nearest.proofs.Chosen.{first-le, walked-none, walked-one, walked-many, steady, points-fit}
+use Rattle.inspect.specs.Presence.{lacking}
+use Rattle.inspect.proofs.Lacking.{is-nothing, is-one}
+use Rattle.nearest_laws.specs.Walk.{Best, over, settle}
+use Rattle.nearest_laws.proofs.Search.{three-count}
+use Rattle.nearest.specs.Code.{view, middleOf}
+use Rattle.nearest.proofs.Chosen.{two-missing, candidates-two}
 use Rattle.nearest.proofs.best_of.Statement.{statement}
 use Rattle.nearest.proofs.best_of.Tie as tie
 
-fresh-requires : tie.Need-fresh-requires
-fresh-requires c κs = search needs
+-- the last arm
+two : (c : tie.At-match-keys3) → 2 ≤ lacking (c .before .before .before .args .presence)
+two c = let m = c .before .missing-of in two-missing (lacking (c .before .before .before .args .presence)) (m .result) (m .ensures) (c .match .keys3)
 
-filling-of-requires : tie.Need-filling-of-requires
-filling-of-requires c κs = search needs
+untried : (c : tie.After-fresh) → c .fresh .result .tried ≡ 0
+untried c = ap (λ (b : Best). b .tried) (c .fresh .ensures)
 
-enum-told : tie.Need-enum-told
-enum-told c = search needs
+attempt-requires : tie.Need-attempt-requires
+attempt-requires c κs = let h = c .before .before .before .before .pre in (h .order, h .points, omega arith, omega (arith, untried (c .before .before .before)))
 
-enum-told-2 : tie.Need-enum-told-2
-enum-told-2 c = search needs
-
-mul-t12 : tie.Need-mul-t12
-mul-t12 c =
-    let x = c .before .before .before .before .before .before .before .args in
-    let h = c .before .before .before .before .before .before .before .pre in
-    omega (arith, h .0 .a, first-le (absent (x .weights) (x .presence)) (h .1 .falls), points-fit (x .plan .a) (x .left .0) (x .points .0) (omega (arith, h .0 .a, first-le (absent (x .weights) (x .presence)) (h .1 .falls))) (h .1 .fits))
-
-add-t13 : tie.Need-add-t13
-add-t13 c =
-    let x = c .before .before .before .before .before .before .before .before .args in
-    let h = c .before .before .before .before .before .before .before .before .pre in
-    omega (arith, points-fit (x .plan .a) (x .left .0) (x .points .0) (omega (arith, h .0 .a, first-le (absent (x .weights) (x .presence)) (h .1 .falls))) (h .1 .fits))
-
-offer-requires : tie.Need-offer-requires
-offer-requires c κs = search needs
-
-enum-told-3 : tie.Need-enum-told-3
-enum-told-3 c = search needs
-
-search-requires : tie.Need-search-requires
-search-requires c κs =
-    let x = c .before .before .before .before .before .args in
-    let h = c .before .before .before .before .before .pre in
-    let n = is-walk (blanks (x .presence)) (sym (c .enum-told3 .given .1) ∙ c .before .before .filling-of .ensures) in
-    let l = first-le (absent (x .weights) (x .presence)) (h .1 .falls) in (
-      steady (x .weights) (x .presence) (x .plan) (x .left .0) (x .points .0) (h .0) (h .1 .falls) n,
-      omega (arith, h .0 .a, l),
-      omega (arith, points-fit (x .plan .a) (x .left .0) (x .points .0) (omega (arith, h .0 .a, l)) (h .1 .fits)),
+each-n300-requires : tie.Need-each-n300-requires
+each-n300-requires c κs =
+    let x = c .before .before .before .args in
+    let h = c .before .before .before .pre in
+    let p = x .plan in
+    let s = h .slots in (
+      h .points,
+      record {
+        order = h .apart (two c);
+        slots = s;
+        tried =
+            three-count (p .a) (p .c) (p .target .0) (middleOf (p .n300)) (middleOf (p .n200)) (middleOf (p .n100)) (x .remain-hits .0) (x .points .0)
+            (view (c .before .before .fresh .result)) (untried (c .before .before)) (h .light) (s .n300) (s .n200) (s .n100);
+      },
     )
 
 returns : tie.Need-returns
-returns c =
-    let x = c .before .before .before .before .before .args in
-    walked-none (x .weights) (x .presence) (x .plan) (x .left .0) (x .points .0) (c .before .before .before .before .before .pre .0) (c .before .before .before .before .fresh .result)
-    (is-nothing (blanks (x .presence)) (sym (c .enum-told .given .1) ∙ c .before .before .filling-of .ensures)) (c .before .before .before .before .fresh .ensures .0)
+unfolding settle
+returns c = rw (is-nothing (lacking (c .before .before .before .before .args .presence)) (sym (c .enum-told .given .1) ∙ c .before .before .missing-of .ensures)) (c .before .before .before .fresh .ensures)
 
 returns-2 : tie.Need-returns-2
+unfolding settle over
 returns-2 c =
-    let x = c .before .before .before .before .before .before .before .before .before .args in
-    walked-one (x .weights) (x .presence) (x .plan) (x .left .0) (x .points .0) (c .before .before .before .before .before .before .before .before .before .pre .0) (c .offer .result) (c .before .before .before .before .before .before .before .before .fresh .result)
-    (is-single (blanks (x .presence)) (sym (c .before .before .before .before .enum-told2 .given .1) ∙ c .before .before .before .before .before .before .filling-of .ensures)) (c .before .before .before .before .before .before .before .before .fresh .ensures .0) (c .offer .ensures)
+    rw (is-one (lacking (c .before .before .before .before .before .args .presence)) (sym (c .before .enum-told2 .given .1) ∙ c .before .before .before .missing-of .ensures))
+    (rw (c .before .before .before .before .fresh .ensures) at (c .attempt .ensures))
 
 returns-3 : tie.Need-returns-3
 returns-3 c =
-    let x = c .before .before .before .before .before .before .args in
-    let h = c .before .before .before .before .before .before .pre in
-    walked-many (x .weights) (x .presence) (x .plan) (x .left .0) (x .points .0) (h .0) (h .1 .falls)
-    (is-walk (blanks (x .presence)) (sym (c .before .enum-told3 .given .1) ∙ c .before .before .before .filling-of .ensures)) (c .search .result) (c .search .ensures)
+    let x = c .before .before .before .before .args in
+    rw (candidates-two (lacking (x .presence)) (x .plan) (x .remain-hits .0) (x .points .0) (two (c .before)))
+    (rw (c .before .before .before .fresh .ensures) at (c .each-n300 .ensures))
 
 pub best-of-spec : {M : Type 1} → statement M
 best-of-spec =
     tie.close
     (tie.spec
-    fresh-requires
-    filling-of-requires
-    enum-told
-    enum-told-2
-    mul-t12
-    add-t13
-    offer-requires
-    enum-told-3
-    search-requires
+    (λ c κs. search needs)
+    (λ c κs. search needs)
+    (λ c. search needs)
+    (λ c. search needs)
+    attempt-requires
+    each-n300-requires
     returns
     returns-2
     returns-3)

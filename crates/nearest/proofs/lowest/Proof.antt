@@ -1,45 +1,41 @@
 -- `lowest` is the definition's lo.
+use Prim.Native.Nat.{_+_, _*_, _≤_}
+use mathlib.Core.Path.{sym, _∙_}
 use native.Mathlib.Omega.{arith}
 use borrow.Author.Needs.{needs}
+use borrow.Author.Tests.{ltb-true}
+use Rattle.score_state.specs.Limits.{most32}
 use Rattle.nearest_laws.specs.Walk.{lowest}
-use Rattle.nearest_laws.proofs.Steps.{room-base, lowest-below}
+use Rattle.nearest_laws.proofs.Steps.{fits-base, lowest-below}
 use Rattle.nearest.proofs.lowest.Statement.{statement}
 use Rattle.nearest.proofs.lowest.Tie as tie
 
-mul-base : tie.Need-mul-base
-mul-base c =
-    let x = c .before .before .before .before .before .args in
-    let h = c .before .before .before .before .before .pre in
-    omega (arith, room-base (x .plan .a) (x .plan .c) (x .at .left .0) (x .at .points .0) 4000000000 (h .steady .order) (h .fits))
-
-add-base : tie.Need-add-base
-add-base c =
-    let x = c .before .before .before .before .before .before .args in
-    let h = c .before .before .before .before .before .before .pre in
-    omega (arith, room-base (x .plan .a) (x .plan .c) (x .at .left .0) (x .at .points .0) 4000000000 (h .steady .order) (h .fits))
+-- the points with all hits that are left at c fit
+fits : (c : tie.Start) → c .args .at .points .0 + c .args .plan .c * c .args .at .left .0 ≤ most32
+fits c =
+    let x = c .args in
+    fits-base (x .plan .a) (x .plan .c) (x .at .left .0) (x .at .points .0) most32 (omega (arith, c .pre .0)) (c .pre .1)
 
 returns : tie.Need-returns
 returns c =
-    let x = c .before .before .before .before .before .before .before .before .args in
-    lowest-below (x .plan .a) (x .plan .c) (x .plan .target .0) (x .at .left .0) (x .at .points .0) (c .if1 .taken)
-
-sub-steps-in : tie.Need-sub-steps-in
-sub-steps-in c = search needs
-
-steps-in-requires : tie.Need-steps-in-requires
-steps-in-requires c κs =
-    let h = c .before .before .before .before .before .before .before .before .before .before .pre in
-    omega (arith, h .steady .order)
+    let x = c .before .before .before .before .before .args in
+    lowest-below (x .plan .a) (x .plan .c) (x .plan .target .0) (x .at .left .0) (x .at .points .0)
+    (omega (arith, ltb-true (x .plan .target .0) (c .before .before .plus .result .0) (sym (c .before .less .ensures) ∙ c .if1 .taken)))
 
 returns-2 : tie.Need-returns-2
 unfolding lowest
-returns-2 c = omega (arith, c .before .before .before .steps-in .ensures)
-
-returns-3 : tie.Need-returns-3
-unfolding lowest
-returns-3 c = omega (arith, c .before .before .before .steps-in .ensures)
+returns-2 c = omega (arith, rw (c .before .before .before .saturating-sub .ensures, c .before .before .before .before .before .before .plus .ensures, c .before .before .before .before .before .before .before .times .ensures) at (c .before .steps .ensures .0))
 
 pub lowest-spec : {M : Type 1} → statement M
 lowest-spec =
     tie.close
-    (tie.spec mul-base add-base returns sub-steps-in steps-in-requires returns-2 returns-3)
+    (tie.spec
+    (λ c κs. omega (arith, fits (c .before)))
+    (λ c κs. omega (arith, fits (c .before .before)))
+    (λ c κs. search needs)
+    returns
+    (λ c κs. search needs)
+    (λ c. search needs)
+    (λ c κs. search needs)
+    (λ c κs. search needs)
+    returns-2)

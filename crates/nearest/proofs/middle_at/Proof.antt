@@ -7,28 +7,29 @@ use Rattle.nearest_laws.proofs.Places.{slot-heavy, slot-light, slot-middle}
 use Rattle.nearest.proofs.middle_at.Statement.{statement}
 use Rattle.nearest.proofs.middle_at.Tie as tie
 
-is-given-requires : tie.Need-is-given-requires
-is-given-requires c κs = search needs
-
 returns : tie.Need-returns
 unfolding slotOf
-returns c = rw (sym (c .before .is-given .ensures) ∙ c .if1 .taken)
+returns c = λ n. rw (sym (c .before .is-given .ensures) ∙ c .if1 .taken)
 
 returns-2 : tie.Need-returns-2
-returns-2 c = let x = c .before .before .before .args in rw (sym (c .before .before .is-given .ensures) ∙ c .before .if1 .left) (sym (slot-heavy (x .a) (x .c) (x .weight) (c .if2 .taken)))
+returns-2 c =
+    λ n.
+    let x = c .before .before .before .args in
+    rw (sym (c .before .before .is-given .ensures) ∙ c .before .if1 .left) (sym (slot-heavy (x .a) (x .c) (x .weight) (c .if2 .taken)))
 
 returns-3 : tie.Need-returns-3
-returns-3 c = let x = c .before .before .before .before .args in rw (sym (c .before .before .before .is-given .ensures) ∙ c .before .before .if1 .left) (sym (slot-light (x .a) (x .c) (x .weight) (c .if3 .taken) (c .before .if2 .left)))
-
-stride-requires : tie.Need-stride-requires
-stride-requires c κs = (c .if3 .left, c .before .if2 .left)
+returns-3 c =
+    λ n.
+    let x = c .before .before .before .before .args in
+    rw (sym (c .before .before .before .is-given .ensures) ∙ c .before .before .if1 .left) (sym (slot-light (x .a) (x .c) (x .weight) (c .if3 .taken) (c .before .if2 .left)))
 
 returns-4 : tie.Need-returns-4
 returns-4 c =
+    λ n.
     let x = c .before .before .before .before .before .args in
     rw (sym (c .before .before .before .before .is-given .ensures) ∙ c .before .before .before .if1 .left)
-    (ap (λ (q : ℕ). record { weight = x .weight; q = q }) (c .stride .ensures) ∙ sym (slot-middle (x .a) (x .c) (x .weight) (c .before .if3 .left) (c .before .before .if2 .left)))
+    (ap (λ (q : ℕ). record { weight = x .weight; q = q }) (c .stride .ensures)
+    ∙ sym (slot-middle (x .a) (x .c) (x .weight) (c .before .if3 .left) (c .before .before .if2 .left)))
 
 pub middle-at-spec : {M : Type 1} → statement M
-middle-at-spec =
-    tie.close (tie.spec is-given-requires returns returns-2 returns-3 stride-requires returns-4)
+middle-at-spec = tie.close (tie.spec (λ c κs. search needs) returns returns-2 returns-3 (λ c κs. (c .if3 .left, c .before .if2 .left)) returns-4)

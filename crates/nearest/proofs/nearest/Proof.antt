@@ -1,83 +1,89 @@
 -- `nearest` is the definition's answer.
-use Prim.Native.Nat.{_%_}
-use mathlib.Core.Bool.{not, _&&_}
-use mathlib.Core.Path.{sym, _∙_, subst}
-use lib.Dec.{eqb}
+use Prim.Native.Nat.{_≤_}
+use mathlib.Core.Bool.{false}
+use mathlib.Core.Option.{some}
+use mathlib.Core.Path.{_≡_, refl, sym, ap, _∙_}
 use borrow.Author.Needs.{needs}
-use Rattle.score_state.specs.Accuracy.{Capped}
-use Rattle.score_state.specs.declared.HitResults.{HitResults}
-use Rattle.nearest.specs.Presence.{foundOf}
-use Rattle.nearest.proofs.Asked.{capped, light, apart, room, answer-none, answer-some, walked-found, held-is, points-is}
+use Rattle.score_state.specs.Points.{weightsOf}
+use Rattle.score_state.specs.Given.{givenHits, givenPoints}
+use Rattle.inspect.specs.Presence.{unwrapOrZero}
+use Rattle.nearest_laws.specs.Nearest.{stops, nearest, found}
+use Rattle.nearest_laws.proofs.Nearest.{stops-room}
+use Rattle.nearest.specs.Presence.{walkedOf}
+use Rattle.nearest.specs.Outcome.{givenFive}
+use Rattle.nearest.proofs.Known.{five-given, unwrap-hits, unwrap-points, folded-is}
+use Rattle.nearest.proofs.Asked.{sixOf, capped, light, falls, fits}
 use Rattle.nearest.proofs.nearest.Statement.{statement}
 use Rattle.nearest.proofs.nearest.Tie as tie
 
-shown-requires : tie.Need-shown-requires
-shown-requires c κs = search needs
+-- the given counts with 0 for a missing one, their sum and points
+known : (c : tie.After-unwrap-or-zero) → c .unwrap-or-zero .result ≡ unwrapOrZero (c .before .before .args .presence) (sixOf (c .before .before .args .given))
+known c = rw (c .before .of .ensures) at (c .unwrap-or-zero .ensures)
+
+sum : (c : tie.After-total-hits) → c .total-hits .result .0 ≡ givenHits (givenFive (c .before .before .before .args .presence) (c .before .before .before .args .given))
+sum c = let x = c .before .before .before .args in c .total-hits .ensures ∙ rw (known (c .before)) (unwrap-hits (x .presence) (sixOf (x .given)) refl)
+
+points
+    : (c : tie.After-points-of)
+    → c .points-of .result .0 ≡ givenPoints (weightsOf (c .before .before .before .before .before .before .args .weights)) (givenFive (c .before .before .before .before .before .before .args .presence) (c .before .before .before .before .before .before .args .given))
+points c =
+    let x = c .before .before .before .before .before .before .args in
+    c .points-of .ensures ∙ rw (known (c .before .before .before .before)) (unwrap-points (x .weights) (x .presence) (sixOf (x .given)))
+
+-- check 14
+stopped
+    : (c : tie.After-no-split)
+    → c .no-split .result ≡ stops (givenFive (c .before .before .before .before .args .presence) (c .before .before .before .before .args .given)) (c .before .before .before .before .args .remain .0)
+unfolding stops
+stopped c = let x = c .before .before .before .before .args in rw (sum (c .before), ← five-given (x .presence) (sixOf (x .given))) at (c .no-split .ensures)
+
+goes : (c : tie.Else1) → stops (givenFive (c .before .before .before .before .before .args .presence) (c .before .before .before .before .before .args .given)) (c .before .before .before .before .before .args .remain .0) ≡ false
+goes c = sym (stopped (c .before)) ∙ c .if1 .left
+
+within : (c : tie.Else1) → givenHits (givenFive (c .before .before .before .before .before .args .presence) (c .before .before .before .before .before .args .given)) ≤ c .before .before .before .before .before .args .remain .0
+within c = let x = c .before .before .before .before .before .args in stops-room (givenFive (x .presence) (x .given)) (x .remain .0) (goes c)
 
 total-hits-requires : tie.Need-total-hits-requires
-total-hits-requires c κs =
-    let x = c .before .args in
-    subst (λ (k : HitResults). Capped k) (sym (c .shown .ensures)) (capped (x .weights) (x .presence) (x .given) (x .remain) (x .target) (c .before .pre))
-
-no-split-requires : tie.Need-no-split-requires
-no-split-requires c κs = search needs
+total-hits-requires c κs = let x = c .before .before .args in rw (known c) (capped (x .weights) (x .presence) (x .given) (x .remain) (c .before .before .pre))
 
 returns : tie.Need-returns
-returns c =
-    let x = c .before .before .before .before .args in
-    let s = c .before .before .before .shown in
-    let h = c .before .before .total-hits in
-    answer-none (x .weights) (x .presence) (x .given) (x .target .0) (x .remain .0) (h .result .0) (c .before .no-split .result)
-    (held-is (x .presence) (x .given) (s .result) (h .result .0) (s .ensures) (h .ensures)) (c .before .no-split .ensures) (c .if1 .taken)
+unfolding nearest
+returns c = rw (sym (stopped (c .before)) ∙ c .if1 .taken)
 
 points-of-requires : tie.Need-points-of-requires
 points-of-requires c κs =
-    let x = c .before .before .before .before .args in (
-      light (x .weights) (c .before .before .before .before .pre .weighting),
-      subst (λ (k : HitResults). Capped k) (sym (c .before .before .before .shown .ensures)) (capped (x .weights) (x .presence) (x .given) (x .remain) (x .target) (c .before .before .before .before .pre)),
-    )
-
-sub-t12 : tie.Need-sub-t12
-sub-t12 c =
-    let x = c .before .before .before .before .before .before .before .args in
-    let h = c .before .before .before .before .before .total-hits in
-    room (x .remain .0) (h .result .0) (eqb (x .presence % 32) 31 && not (eqb (h .result .0) (x .remain .0))) (sym (c .before .before .before .before .no-split .ensures) ∙ c .before .before .before .if1 .left)
-
-folded-requires : tie.Need-folded-requires
-folded-requires c κs = search needs
+    let x = c .before .before .before .before .before .args in
+    let a = c .before .before .before .before .before .pre in
+    (light (x .weights) (x .presence) (x .given) (x .remain) a, rw (known (c .before .before .before)) (capped (x .weights) (x .presence) (x .given) (x .remain) a))
 
 found-requires : tie.Need-found-requires
 found-requires c κs =
     let x = c .before .before .before .before .before .before .before .before .args in
-    let s = c .before .before .before .before .before .before .before .shown in
-    let h = c .before .before .before .before .before .before .total-hits in
-    apart (x .weights) (x .presence) (c .folded .result) (x .given) (x .remain .0) (h .result .0) (c .before .before .before .points-of .result .0) (c .before .before .before .before .before .before .before .before .pre .weighting) (c .before .before .before .before .before .before .before .before .pre .few)
-    (room (x .remain .0) (h .result .0) (eqb (x .presence % 32) 31 && not (eqb (h .result .0) (x .remain .0))) (sym (c .before .before .before .before .before .no-split .ensures) ∙ c .before .before .before .before .if1 .left))
-    (held-is (x .presence) (x .given) (s .result) (h .result .0) (s .ensures) (h .ensures))
-    (points-is (x .weights) (x .presence) (x .given) (s .result) (c .before .before .before .points-of .result .0) (s .ensures) (c .before .before .before .points-of .ensures)) (c .folded .ensures)
+    let a = c .before .before .before .before .before .before .before .before .pre in (
+      rw (c .folded .ensures, known (c .before .before .before .before .before .before)) (falls (x .weights) (x .presence) (x .given) (x .remain) a),
+      rw (points (c .before .before), c .before .minus .ensures, sum (c .before .before .before .before .before)) (fits (x .weights) (x .presence) (x .given) (x .remain) a (within (c .before .before .before))),
+    )
 
 returns-2 : tie.Need-returns-2
+unfolding nearest found walkedOf
 returns-2 c =
     let x = c .before .before .before .before .before .before .before .before .before .args in
-    let s = c .before .before .before .before .before .before .before .before .shown in
-    let h = c .before .before .before .before .before .before .before .total-hits in
-    let e = held-is (x .presence) (x .given) (s .result) (h .result .0) (s .ensures) (h .ensures) in
-    answer-some (x .weights) (x .presence) (x .given) (x .target .0) (x .remain .0) (h .result .0) (c .before .before .before .before .before .before .no-split .result) e (c .before .before .before .before .before .before .no-split .ensures)
-    (foundOf (c .found .result)) (c .before .before .before .before .before .if1 .left)
-    (c .found .ensures
-    ∙ walked-found (x .weights) (x .presence) (c .before .folded .result) (x .given) (s .result) (x .target .0) (x .remain .0) (h .result .0) (c .before .before .before .before .points-of .result .0) e
-    (points-is (x .weights) (x .presence) (x .given) (s .result) (c .before .before .before .before .points-of .result .0) (s .ensures) (c .before .before .before .before .points-of .ensures)) (c .before .folded .ensures) (s .ensures))
+    rw (goes (c .before .before .before .before))
+    (ap some
+    (rw (c .before .folded .ensures, known (c .before .before .before .before .before .before .before), folded-is (x .weights) (x .presence) (sixOf (x .given)), c .before .before .minus .ensures, sum (c .before .before .before .before .before .before), points (c .before .before .before))
+    at (c .found .ensures)))
 
 pub nearest-spec : {M : Type 1} → statement M
 nearest-spec =
     tie.close
     (tie.spec
-    shown-requires
+    (λ c κs. search needs)
+    (λ c κs. search needs)
     total-hits-requires
-    no-split-requires
+    (λ c κs. search needs)
     returns
     points-of-requires
-    sub-t12
-    folded-requires
+    (λ c κs. rw (sum (c .before .before .before)) (within (c .before)))
+    (λ c κs. search needs)
     found-requires
     returns-2)

@@ -8,15 +8,6 @@ use Rattle.nearest_laws.proofs.Exchange.{gcd-pos}
 use Rattle.nearest.proofs.stride.Statement.{statement}
 use Rattle.nearest.proofs.stride.Tie as tie
 
-sub-w : tie.Need-sub-w
-sub-w c = search needs
-
-sub-gcd : tie.Need-sub-gcd
-sub-gcd c = search needs
-
-gcd-requires : tie.Need-gcd-requires
-gcd-requires c κs = search needs
-
 div-result : tie.Need-div-result
 div-result c =
     let x = c .before .args in
@@ -28,4 +19,4 @@ unfolding stride
 returns c = let x = c .before .args in ap (λ (z : ℕ). (x .a - x .c) / z) (c .gcd .ensures)
 
 pub stride-spec : {M : Type 1} → statement M
-stride-spec = tie.close (tie.spec sub-w sub-gcd gcd-requires div-result returns)
+stride-spec = tie.close (tie.spec (λ c. search needs) (λ c. search needs) (λ c κs. search needs) div-result returns)

@@ -2,83 +2,54 @@
 use mathlib.Core.Path.{sym, _∙_}
 use native.Mathlib.Omega.{arith}
 use borrow.Author.Needs.{needs}
-use Rattle.nearest_laws.specs.Walk.{settings}
-use Rattle.nearest_laws.proofs.Steps.{settle-over, settle-mono, lowest-le, both-stop, both-one, both-two, both-count}
-use Rattle.nearest.specs.Code.{view, settingsOf, ms0, hs3}
+use borrow.Author.Tests.{ltb-true}
+use Rattle.nearest_laws.proofs.Steps.{settle-mono, lowest-le}
+use Rattle.nearest.specs.Code.{view, bothOf}
+use Rattle.nearest.proofs.Level.{Lower, lower-over, lower-end, lower-tried, lower-on}
 use Rattle.nearest.proofs.Best.both.Statement.{statement}
 use Rattle.nearest.proofs.Best.both.Tie as tie
 
-over-requires : tie.Need-over-requires
-over-requires c κs = search needs
-
-returns : tie.Need-returns
-returns c =
-    let x = c .before .before .args in
-    sym (settle-over (x .plan .target .0) (settingsOf (x .plan) (x .at) (ms0 (x .plan)) (hs3 (x .at))) (view (x .self)) (sym (c .before .over .ensures) ∙ c .if1 .taken))
-
-lowest-requires : tie.Need-lowest-requires
-lowest-requires c κs = search needs
+-- after the lower candidate
+lower
+    : (c : tie.After-attempt)
+    → Lower (c .before .before .args .plan) (c .before .before .args .at) (c .before .before .args .self) (c .before .lowest .result .0) (c .attempt .result)
+lower c = record { least = c .before .lowest .ensures; offered = c .attempt .ensures; going = c .before .before .pre .2 }
 
 attempt-requires : tie.Need-attempt-requires
 attempt-requires c κs =
-    let x = c .before .before .before .before .args in
-    let h = c .before .before .before .before .pre in (
+    let x = c .before .args in
+    let h = c .before .pre in (
+      omega (arith, h .1 .order),
       h .0,
-      omega (arith, c .before .lowest .ensures, lowest-le (x .plan .a) (x .plan .c) (x .plan .target .0) (x .at .left .0) (x .at .points .0)),
-      omega (arith, settle-mono (x .plan .target .0) (settingsOf (x .plan) (x .at) (ms0 (x .plan)) (hs3 (x .at))) (view (x .self)), h .1 .count),
+      omega (arith, c .lowest .ensures, lowest-le (x .plan .a) (x .plan .c) (x .plan .target .0) (x .at .left .0) (x .at .points .0)),
+      omega (arith, settle-mono (x .plan .target .0) (bothOf (x .plan) (x .at)) (view (x .self)), h .1 .tried),
     )
 
-over-requires-2 : tie.Need-over-requires-2
-over-requires-2 c κs = search needs
-
-returns-2 : tie.Need-returns-2
-unfolding settings
-returns-2 c =
-    let x = c .before .before .before .before .before .before .before .args in
-    both-stop (x .plan .a) (x .plan .c) (x .plan .target .0) (x .at .left .0) (x .at .points .0) (hs3 (x .at)) (view (x .self)) (view (c .before .before .attempt .result))
-    (c .before .before .before .before .lowest .result .0) (c .before .before .before .before .lowest .ensures) (c .before .before .attempt .ensures) (sym (c .before .before .before .before .before .before .over .ensures) ∙ c .before .before .before .before .before .if1 .left)
-    (sym (c .before .over2 .ensures) ∙ c .if2 .taken)
-
-add-t10 : tie.Need-add-t10
-add-t10 c = search needs
+plus-requires : tie.Need-plus-requires
+plus-requires c κs =
+    omega (arith, ltb-true (c .before .before .before .before .before .lowest .result .0) (c .before .before .before .before .before .before .args .at .left .0) (sym (c .before .less .ensures) ∙ c .if2 .taken), c .before .before .before .before .before .before .good .1 .1 .0)
 
 attempt-requires-2 : tie.Need-attempt-requires-2
-unfolding settings
 attempt-requires-2 c κs =
-    let x = c .before .before .before .before .before .before .before .before .before .before .before .args in
-    let h = c .before .before .before .before .before .before .before .before .before .before .before .pre in
-    let n =
-    both-count (x .plan .a) (x .plan .c) (x .plan .target .0) (x .at .left .0) (x .at .points .0) (hs3 (x .at)) (view (x .self)) (view (c .before .before .before .before .before .before .attempt .result))
-    (c .before .before .before .before .before .before .before .before .lowest .result .0) (c .before .before .before .before .before .before .before .before .lowest .ensures) (c .before .before .before .before .before .before .attempt .ensures) (sym (c .before .before .before .before .before .before .before .before .before .before .over .ensures) ∙ c .before .before .before .before .before .before .before .before .before .if1 .left) in
-    (h .0, omega arith, omega (arith, n, h .1 .count))
-
-returns-3 : tie.Need-returns-3
-unfolding settings
-returns-3 c =
-    let x = c .before .before .before .before .before .before .before .before .before .before .before .before .args in
-    both-two (x .plan .a) (x .plan .c) (x .plan .target .0) (x .at .left .0) (x .at .points .0) (hs3 (x .at)) (view (x .self)) (view (c .before .before .before .before .before .before .before .attempt .result))
-    (c .before .before .before .before .before .before .before .before .before .lowest .result .0) (c .before .before .before .before .before .before .before .before .before .lowest .ensures) (c .before .before .before .before .before .before .before .attempt .ensures) (sym (c .before .before .before .before .before .before .before .before .before .before .before .over .ensures) ∙ c .before .before .before .before .before .before .before .before .before .before .if1 .left)
-    (view (c .attempt2 .result)) (sym (c .before .before .before .before .before .before .over2 .ensures) ∙ c .before .before .before .before .before .if2 .left) (omega arith) (c .attempt2 .ensures)
-
-returns-4 : tie.Need-returns-4
-unfolding settings
-returns-4 c =
-    let x = c .before .before .before .before .before .before .before .before .before .before .args in
-    both-one (x .plan .a) (x .plan .c) (x .plan .target .0) (x .at .left .0) (x .at .points .0) (hs3 (x .at)) (view (x .self)) (view (c .before .before .before .before .before .attempt .result))
-    (c .before .before .before .before .before .before .before .lowest .result .0) (c .before .before .before .before .before .before .before .lowest .ensures) (c .before .before .before .before .before .attempt .ensures) (sym (c .before .before .before .before .before .before .before .before .before .over .ensures) ∙ c .before .before .before .before .before .before .before .before .if1 .left)
-    (c .if3 .left)
+    let h = c .before .before .before .before .before .before .before .pre in (
+      omega (arith, h .1 .order),
+      h .0,
+      omega (arith, ltb-true (c .before .before .before .before .before .before .lowest .result .0) (c .before .before .before .before .before .before .before .args .at .left .0) (sym (c .before .before .less .ensures) ∙ c .before .if2 .taken)),
+      omega (arith, lower-tried (lower (c .before .before .before .before .before)), h .1 .tried),
+    )
 
 pub both-spec : {M : Type 1} → statement M
 both-spec =
     tie.close
     (tie.spec
-    over-requires
-    returns
-    lowest-requires
+    (λ c κs. search needs)
     attempt-requires
-    over-requires-2
-    returns-2
-    add-t10
+    (λ c κs. search needs)
+    (λ c. lower-over (lower (c .before .before)) (c .before .over .ensures) (c .if1 .taken))
+    (λ c κs. search needs)
+    plus-requires
     attempt-requires-2
-    returns-3
-    returns-4)
+    (λ c.
+    lower-on (lower (c .before .before .before .before .before .before)) (c .before .before .before .before .before .over .ensures) (c .before .before .before .before .if1 .left) (c .before .before .before .less .ensures) (c .before .before .if2 .taken) (c .before .plus .ensures)
+    (c .attempt2 .ensures))
+    (λ c. lower-end (lower (c .before .before .before .before)) (c .before .less .ensures) (c .if2 .left)))
