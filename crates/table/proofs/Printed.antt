@@ -6,8 +6,9 @@ use Prim.Native.Nat.{ℕ, _+_, _≤_}
 use native.Mathlib.Numerals.{add-one}
 use native.Mathlib.Omega.{arith}
 use lib.ListN.{length, take, drop, length-append}
-use lib.Seq.{take-at, drop-at, length-take-le}
+use lib.Seq.{take-at, drop-at}
 use Rattle.io.specs.Counts.{Counts}
+use Rattle.io.proofs.Counting.{counts}
 use Rattle.little_endian.specs.Bytes.{put}
 use Rattle.text.specs.Text.{Appended}
 use Rattle.text.proofs.Appended.{followed}
@@ -34,8 +35,7 @@ module _ {t₀ t₁ : List ℕ} {r : ℕ} {xs : List ℕ} (p : Appended t₀ 0 t
   pub counted : Counts r t₁
   counted =
       let l : length t₁ ≡ length xs + length (drop r t₀) = ap length whole ∙ length-append xs (drop r t₀) in
-      let h : r ≤ length t₁ = omega (arith, size) in
-      (h, sym (length-take-le r t₁ h))
+      counts r t₁ (omega (arith, size))
 
   pub front : take r t₁ ≡ xs
   front = ap (take r) whole ∙ take-at xs (drop r t₀) r size
