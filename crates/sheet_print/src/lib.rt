@@ -1,73 +1,66 @@
-// What the program `sheet` does, as a function, so that each stored sheet of the gate has a program of its own: it reads a sheet from
-// standard input and prints a header and one row per query, or `refused N` for a sheet that a check stops. No contract can say what
-// is read or printed; the stored outputs hold it.
-ghost use Prim.Native.Nat.{_+_, _*_, _≤_};
-ghost use lib.ListN.{length};
+// What the program `sheet` does: it reads a sheet and writes what `table::print_sheet` makes of it, whose contract says every byte. A
+// read or a write that fails is told on standard error. No contract can say what is read or written: that the bytes that come are
+// those handed to `print_sheet`, and its bytes those that go, is three lines of `print_from`.
+ghost use Rattle.sheet_print.specs.Input.{Within};
+use libc::STDERR_FILENO;
 use libc::STDIN_FILENO;
 use libc::STDOUT_FILENO;
-use sheets::SheetAnswer;
 
-fn header() {
-    io::write_all(
-        STDOUT_FILENO,
-        b"query status n320 n300 n200 n100 n50 misses tried\n",
-    );
+// The most that is read: a full sheet, 47,112 bytes, and one byte more, which shows that bytes follow the last query.
+const MOST_READ: usize = 4 + 256 * 8 + 4 + 1024 * 44 + 1;
+
+enum Input {
+    // So many bytes, and then the end of the input or of the buffer.
+    Bytes(usize),
+    Failed,
 }
 
-fn space() {
-    io::write_all(STDOUT_FILENO, b" ");
-}
-
-fn end_line() {
-    io::write_all(STDOUT_FILENO, b"\n");
-}
-
-fn refused_word() {
-    io::write_all(STDOUT_FILENO, b"refused ");
-}
-
-fn number(n: u64) {
-    io::print_decimal(STDOUT_FILENO, n);
-}
-
-fn refused(n: u32) {
-    refused_word();
-    number(n as u64);
-    end_line();
-}
-
-// The eight fields of the answer at a place.
-fn fields(out: &[u8], at: usize)
-    requires { ⌜ at + 32 ≤ length (now out) ⌝ }
+// Reads to the end of the input, or until the buffer is full. (`io::read_full` takes a read that fails for the end.)
+fn read_all(fd: i32, buf: &mut [u8]) -> Input
+    ensures { λ r. ⌜ Within r (now (buf .exit)) ⌝ }
 {
-    let mut k: usize = 0;
-    while k < 8 {
-        space();
-        number(little_endian::u32_at(out, at + 4 * k) as u64);
-        k += 1;
+    let mut done: usize = 0;
+    while done < buf.len() {
+        let got = libc::read(fd, &mut buf[done..]);
+        if got < 0 {
+            return Input::Failed;
+        }
+        let more = io::count(got, &buf[done..]);
+        if more == 0 {
+            break;
+        }
+        done += more;
+    }
+    Input::Bytes(done)
+}
+
+fn failed(message: &[u8]) -> bool {
+    io::write_all(STDERR_FILENO, message);
+    false
+}
+
+// Prints the sheet that fd gives, and answers whether all was read and written. A refused sheet is an answer, and no failure.
+pub fn print_from(fd: i32) -> bool {
+    let mut sheet = [0u8; MOST_READ];
+    let Input::Bytes(n) = read_all(fd, &mut sheet) else {
+        return failed(b"sheet: cannot read the sheet\n");
+    };
+    let mut text = [0u8; table::ROOM];
+    let end = table::print_sheet(&sheet[..n], &mut text);
+    if io::write_all(STDOUT_FILENO, &text[..end]) {
+        true
+    } else {
+        failed(b"sheet: cannot write the table\n")
     }
 }
 
-// One row per query: its index, then the answer's fields.
-fn report(out: &[u8], n: usize)
-    requires { ⌜ 32 * n ≤ length (now out) ⌝ }
-{
-    header();
-    let mut i: usize = 0;
-    while i < n {
-        number(i as u64);
-        fields(out, 32 * i);
-        end_line();
-        i += 1;
-    }
+// The program: from standard input.
+pub fn run() -> bool {
+    print_from(STDIN_FILENO)
 }
 
-pub fn run() {
-    let mut text = [0u8; 47113];
-    let n = io::read_full(STDIN_FILENO, &mut text);
-    let mut out = [0u8; 32768];
-    match sheets::work_sheet(&text[..n], &mut out) {
-        SheetAnswer::Worked(queries) => report(&out, queries as usize),
-        SheetAnswer::Refused(stop) => refused(stop),
-    }
+// The same for a C `main` to return: 0, or 1 where a read or a write failed. A program of Rattle's own always ends with 0.
+#[no_mangle]
+pub extern "C" fn nuqsillay_sheet_main() -> i32 {
+    if run() { 0 } else { 1 }
 }

@@ -8,11 +8,11 @@
 //! `run [part ..]` builds and runs the parts that `PARTS` lists; all of them if none is named. `run
 //! parts` prints their names. Each but bench ends with a line
 //! `part: N inputs, D differences, S s`, and any difference ends the program with 1. `run list`
-//! writes the Rust's answers to a file instead (list.rs).
+//! writes the Rust's answers to a file instead (list.rs), and `run stored` the gate's stored sheets.
 //!
 //! Variables: SEED and COUNT (random inputs a part) for the inputs, NUQSILLAY_ROOT for the
-//! repository that holds this crate, ROSU_SRC for the folder with the original's src/, LIST_OUT and
-//! KINDS for the list.
+//! repository that holds this crate, ROSU_SRC for the folder with the original's src/, LIST_OUT for
+//! what is written, KINDS for the list.
 
 use std::{env, process::ExitCode};
 
@@ -64,7 +64,7 @@ fn main() -> ExitCode {
 
     let written = match named.as_slice() {
         [one] if one == "list" => Some(list::write()),
-        [one] if one == "full" => Some(sheets::write_full()),
+        [one] if one == "stored" => Some(sheets::write_stored()),
         _ => None,
     };
 
@@ -87,7 +87,7 @@ fn main() -> ExitCode {
 
     if let Some(unknown) = named.iter().find(|part| !names.contains(&part.as_str())) {
         eprintln!(
-            "beside: no part {unknown}; there are {}, list and full",
+            "beside: no part {unknown}; there are {}, list and stored",
             names.join(", ")
         );
         return ExitCode::from(2);

@@ -29,6 +29,27 @@ pub fn example() -> Vec<u8> {
     sheet::bytes(&[(20, 0)], &[sheet::row(0, &e), sheet::row(0, &bare)])
 }
 
+/// The gate's stored sheets by their files' names, in the order in which crates/stored_sheets prints
+/// them. Those of zeros are as large as allowed, with bytes after them: the program reads one of them.
+pub fn stored() -> Vec<(&'static str, Vec<u8>)> {
+    let example = example();
+    let zeros = sheet::bytes(&vec![(0, 0); CHARTS], &vec![[0; ROW]; QUERIES]);
+    let with = |bytes: &[u8], more: &[u8]| [bytes, more].concat();
+
+    vec![
+        ("example.sheet", example.clone()),
+        ("no_bytes.sheet", Vec::new()),
+        ("no_queries.sheet", sheet::bytes(&[], &[])),
+        ("cut.sheet", example[..example.len() - 1].to_vec()),
+        ("charts_over.sheet", 257_u32.to_le_bytes().to_vec()),
+        ("queries_over.sheet", with(&[0; 4], &1_025_u32.to_le_bytes())),
+        ("one_byte_follows.sheet", with(&example, &[0])),
+        ("full.sheet", full(&mut Rng::new(1))),
+        ("full_one_follows.sheet", with(&zeros, &[0])),
+        ("full_two_follow.sheet", with(&zeros, &[0; 2])),
+    ]
+}
+
 /// The sheets that every run takes.
 pub fn fixed(visit: &mut dyn FnMut(&[u8])) {
     let mut rng = Rng::new(1);

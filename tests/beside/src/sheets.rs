@@ -157,14 +157,28 @@ fn hex(bytes: &[u8]) -> String {
     format!("a sheet of {} bytes {shown}", bytes.len())
 }
 
-/// Writes a full sheet and what is to be printed of it to the files stdin and stdout of the folder
-/// LIST_OUT.
-pub fn write_full() -> io::Result<()> {
-    let folder = PathBuf::from(env::var_os("LIST_OUT").unwrap_or_else(|| ".".into()));
-    let sheet = sheet_inputs::full(&mut Rng::new(1));
+/// Writes the gate's stored sheets, and what is to be printed of them, to data/ and stdout of the
+/// folder LIST_OUT. The last line is of a folder, which cannot be read.
+pub fn write_stored() -> io::Result<()> {
+    let folder = env::var_os("LIST_OUT").ok_or_else(|| io::Error::other("LIST_OUT is not set"))?;
+    let folder = PathBuf::from(folder);
+    let mut printed = String::new();
 
-    fs::write(folder.join("stdin"), &sheet)?;
-    fs::write(folder.join("stdout"), text(&sheet::answers(&sheet)))
+    fs::create_dir_all(folder.join("data"))?;
+
+    for (name, bytes) in sheet_inputs::stored() {
+        let (read, left) = bytes.split_at(bytes.len().min(READ));
+        printed += &format!("{name}\n{}", text(&sheet::answers(read)));
+
+        if !left.is_empty() {
+            printed += &format!("{} not read\n", left.len());
+        }
+
+        fs::write(folder.join("data").join(name), &bytes)?;
+    }
+
+    printed += ".\nfailed\n";
+    fs::write(folder.join("stdout"), printed)
 }
 
 pub fn run(rng: &mut Rng) -> bool {

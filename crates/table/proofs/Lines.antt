@@ -1,0 +1,60 @@
+-- What `printedOf` says in document 01's words: of a sheet that is stopped, `refused N`; of an accepted one, the header and for every
+-- query the line of its answer, where the answer's numbers fit the 32 bits that they have in the output.
+-- Assumes nothing.
+use mathlib.Core.Path.{_≡_, refl, ap, _∙_}
+use mathlib.Core.List.{List, [], _∷_, _++_}
+use Prim.Native.Nat.{ℕ, zero, suc, _+_, _*_, _<_}
+use native.Mathlib.Omega.{arith}
+use lib.ListN.{length}
+use Rattle.little_endian.specs.Bytes.{u32At}
+use Rattle.score_state.specs.Answer.{Answer, statusOf}
+use Rattle.answers.specs.Answers.{value}
+use Rattle.text.specs.Text.{decimalText}
+use Rattle.sheets.specs.Sheets.{joined, sheetStop, queryCount, answerAt, sheetOf}
+use Rattle.sheets.proofs.Laws.{refused-answer, accepted-answer, row-status, row-value}
+use Rattle.table.specs.Table.{headerText, fieldText, fieldsText, rowText, tableText, refusedText, answerText, room, printedOf}
+
+-- the k-th field of an answer: its status, then its values
+abbrev pub field : Answer (List ℕ) → ℕ → ℕ
+field a zero = statusOf a
+field a (suc k) = value a k
+
+abbrev pub Fits32 : Answer (List ℕ) → Type 0
+Fits32 a = (k : ℕ) → k < 8 → field a k < 4294967296
+
+-- the line of query i with this answer
+unfoldable pub lineOf : ℕ → Answer (List ℕ) → List ℕ
+lineOf i a = decimalText i ++ joined (λ k. 32 ∷ decimalText (field a k)) 8 ++ (10 ∷ [])
+
+same-parts : (f g : ℕ → List ℕ) (n : ℕ) → ((k : ℕ) → k < n → f k ≡ g k) → joined f n ≡ joined g n
+same-parts f g zero h = refl
+same-parts f g (suc n) h = rw (same-parts f g n (λ k l. h k (omega arith)), h n (omega arith))
+
+module _ (s : List ℕ) where
+  pub printed-refused : 0 < sheetStop s (length room) → printedOf s ≡ refusedText (sheetStop s (length room))
+  unfolding printedOf answerText
+  printed-refused h = rw (refused-answer s room h)
+
+  module _ (ok : sheetStop s (length room) ≡ 0) where
+    module _ (i : ℕ) (l : i < queryCount s) (fits : Fits32 (answerAt s i)) where
+      one-field : (k : ℕ) → k < 8 → u32At (sheetOf s room .bytes) (32 * i + 4 * k) ≡ field (answerAt s i) k
+      one-field zero h = let e : 32 * i + 4 * 0 ≡ 32 * i = omega arith in ap (u32At (sheetOf s room .bytes)) e ∙ row-status s room ok i l (fits 0 h)
+      one-field (suc k) h =
+          let e : 32 * i + 4 * suc k ≡ 32 * i + (4 + 4 * k) = omega arith in
+          ap (u32At (sheetOf s room .bytes)) e ∙ row-value s room ok i k l (omega arith) (fits (suc k) h)
+
+      one-line : rowText (sheetOf s room .bytes) i ≡ lineOf i (answerAt s i)
+      unfolding rowText fieldsText lineOf
+      one-line =
+          let e =
+          same-parts (fieldText (sheetOf s room .bytes) (32 * i)) (λ k. 32 ∷ decimalText (field (answerAt s i) k)) 8
+          (λ k h. unfold fieldText in ap (λ (n : ℕ). 32 ∷ decimalText n) (one-field k h)) in
+          ap (λ (xs : List ℕ). decimalText i ++ xs ++ (10 ∷ [])) e
+
+    pub printed-table
+        : ((i : ℕ) → i < queryCount s → Fits32 (answerAt s i)) → printedOf s ≡ headerText ++ joined (λ i. lineOf i (answerAt s i)) (queryCount s)
+    unfolding printedOf answerText tableText
+    printed-table fits =
+        rw (accepted-answer s room ok)
+        (ap (λ (xs : List ℕ). headerText ++ xs)
+        (same-parts (rowText (sheetOf s room .bytes)) (λ i. lineOf i (answerAt s i)) (queryCount s) (λ i l. one-line i l (fits i l))))

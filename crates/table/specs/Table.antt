@@ -1,0 +1,52 @@
+-- Document 01, Program `sheet`: it "prints a header and one row per query: index, then the answer's fields. A refused sheet prints
+-- only `refused N`." The bytes that it prints, from the bytes of the sheet.
+use mathlib.Core.List.{List, [], _∷_, _++_}
+use Prim.Native.Nat.{ℕ, _+_, _*_}
+use lib.ListN.{replicate}
+use Rattle.little_endian.specs.Bytes.{u32At}
+use Rattle.score_state.specs.Answer.{Answer, worked, refused}
+use Rattle.text.specs.Text.{decimalText}
+use Rattle.sheets.specs.Sheets.{joined, WorkedSheet, sheetOf}
+
+-- "query status n320 n300 n200 n100 n50 misses tried", a line of 50 bytes
+unfoldable pub headerText : List ℕ
+headerText =
+    113 ∷ 117 ∷ 101 ∷ 114 ∷ 121 ∷ 32 ∷ 115 ∷ 116 ∷ 97 ∷ 116 ∷ 117 ∷ 115 ∷ 32 ∷ 110 ∷ 51 ∷ 50 ∷ 48 ∷ 32 ∷ 110 ∷ 51 ∷ 48 ∷ 48 ∷ 32 ∷ 110 ∷ 50 ∷ 48 ∷ 48 ∷ 32 ∷ 110 ∷ 49 ∷ 48 ∷ 48 ∷ 32 ∷ 110 ∷ 53 ∷ 48 ∷ 32 ∷ 109 ∷ 105 ∷ 115 ∷ 115 ∷ 101 ∷ 115 ∷ 32 ∷ 116 ∷ 114 ∷ 105 ∷ 101 ∷ 100 ∷ 10 ∷ []
+
+-- "refused ", 8 bytes
+unfoldable pub refusedWord : List ℕ
+refusedWord = 114 ∷ 101 ∷ 102 ∷ 117 ∷ 115 ∷ 101 ∷ 100 ∷ 32 ∷ []
+
+-- a space and the k-th number of the answer that starts at `from`
+unfoldable pub fieldText : List ℕ → ℕ → ℕ → List ℕ
+fieldText out from k = 32 ∷ decimalText (u32At out (from + 4 * k))
+
+-- its eight fields
+unfoldable pub fieldsText : List ℕ → ℕ → List ℕ
+fieldsText out from = joined (fieldText out from) 8
+
+-- the line of query i: its index, and the fields of its answer, 32 bytes of the output
+unfoldable pub rowText : List ℕ → ℕ → List ℕ
+rowText out i = decimalText i ++ fieldsText out (32 * i) ++ (10 ∷ [])
+
+unfoldable pub tableText : List ℕ → ℕ → List ℕ
+tableText out n = headerText ++ joined (rowText out) n
+
+unfoldable pub refusedText : ℕ → List ℕ
+refusedText n = refusedWord ++ decimalText n ++ (10 ∷ [])
+
+-- what is printed of an answer, with the output that goes with it
+unfoldable pub answerText : Answer ℕ → List ℕ → List ℕ
+answerText (worked n) out = tableText out n
+answerText (refused n) out = refusedText n
+
+abbrev pub sheetText : WorkedSheet → List ℕ
+sheetText w = answerText (w .answer) (w .bytes)
+
+-- an output of 32 bytes for each of 1,024 queries
+unfoldable pub room : List ℕ
+room = replicate 32768 0
+
+-- what is printed of the bytes of a sheet
+unfoldable pub printedOf : List ℕ → List ℕ
+printedOf s = sheetText (sheetOf s room)

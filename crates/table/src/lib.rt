@@ -1,0 +1,104 @@
+// What the program `sheet` prints, as bytes in a lent buffer. Each piece is told where it starts and answers where it ends.
+ghost use mathlib.Core.Path.{_≡_};
+ghost use Prim.Native.Nat.{_+_, _*_, _≤_, _<_};
+ghost use lib.ListN.{length, take, drop};
+ghost use Rattle.io.specs.Counts.{Counts};
+ghost use Rattle.text.specs.Text.{Appended};
+ghost use Rattle.sheets.specs.Sheets.{joined};
+ghost use Rattle.table.specs.Table.{fieldText, fieldsText, rowText, tableText, refusedText, printedOf};
+use sheets::SheetAnswer;
+
+// The longest table: a header, and 1,024 lines of an index of four digits, eight fields of a space and ten digits, and an end.
+pub const ROOM: usize = 50 + 1024 * (4 + 8 * 11 + 1);
+
+// A space and the k-th number of the answer that starts at `from`.
+fn put_field(text: &mut [u8], at: usize, out: &[u8], from: usize, k: usize) -> usize
+    requires { ⌜ at + 11 ≤ length (now text) ⌝ }
+    requires { ⌜ (k < 8) × (from + 32 ≤ length (now out)) ⌝ }
+    ensures { λ r. ⌜ Appended (now (text .entry)) at (now (text .exit)) r (fieldText (now (out .entry)) from k) ⌝ }
+    ensures { λ r. ⌜ r ≤ at + 11 ⌝ }
+{
+    let next = text::put_byte(text, at, b' ');
+    text::put_decimal(text, next, little_endian::u32_at(out, from + 4 * k))
+}
+
+// The eight fields of the answer that starts at `from`.
+fn put_fields(text: &mut [u8], at: usize, out: &[u8], from: usize) -> usize
+    requires { ⌜ at + 88 ≤ length (now text) ⌝ }
+    requires { ⌜ from + 32 ≤ length (now out) ⌝ }
+    ensures { λ r. ⌜ Appended (now (text .entry)) at (now (text .exit)) r (fieldsText (now (out .entry)) from) ⌝ }
+    ensures { λ r. ⌜ r ≤ at + 88 ⌝ }
+{
+    let mut end = at;
+    let mut k: usize = 0;
+    while k < 8 {
+        end = put_field(text, end, out, from, k);
+        k += 1;
+    }
+    end
+}
+
+// The line of query i.
+fn put_row(text: &mut [u8], at: usize, out: &[u8], i: usize) -> usize
+    requires { ⌜ at + 93 ≤ length (now text) ⌝ }
+    requires { ⌜ (i < 1024) × (32 * i + 32 ≤ length (now out)) ⌝ }
+    ensures { λ r. ⌜ Appended (now (text .entry)) at (now (text .exit)) r (rowText (now (out .entry)) i) ⌝ }
+    ensures { λ r. ⌜ r ≤ at + 93 ⌝ }
+{
+    let index_end = text::put_decimal(text, at, i as u32);
+    let fields_end = put_fields(text, index_end, out, 32 * i);
+    text::put_byte(text, fields_end, b'\n')
+}
+
+// The lines of the first n queries.
+fn put_rows(text: &mut [u8], at: usize, out: &[u8], n: usize) -> usize
+    requires { ⌜ at + 93 * n ≤ length (now text) ⌝ }
+    requires { ⌜ (n ≤ 1024) × (32 * n ≤ length (now out)) ⌝ }
+    ensures { λ r. ⌜ Appended (now (text .entry)) at (now (text .exit)) r (joined (rowText (now (out .entry))) n) ⌝ }
+    ensures { λ r. ⌜ r ≤ at + 93 * n ⌝ }
+{
+    let mut end = at;
+    let mut i: usize = 0;
+    while i < n {
+        end = put_row(text, end, out, i);
+        i += 1;
+    }
+    end
+}
+
+// The header, and the lines of the first n queries.
+fn put_table(text: &mut [u8], out: &[u8], n: usize) -> usize
+    requires { ⌜ 95282 ≤ length (now text) ⌝ }
+    requires { ⌜ (n ≤ 1024) × (32 * n ≤ length (now out)) ⌝ }
+    ensures { λ r. ⌜ Appended (now (text .entry)) 0 (now (text .exit)) r (tableText (now (out .entry)) n) ⌝ }
+{
+    let header_end = text::put_bytes(
+        text,
+        0,
+        b"query status n320 n300 n200 n100 n50 misses tried\n",
+    );
+    put_rows(text, header_end, out, n)
+}
+
+// The line of a sheet that is refused by n.
+fn put_refused(text: &mut [u8], n: u32) -> usize
+    requires { ⌜ 19 ≤ length (now text) ⌝ }
+    ensures { λ r. ⌜ Appended (now (text .entry)) 0 (now (text .exit)) r (refusedText n) ⌝ }
+{
+    let word_end = text::put_bytes(text, 0, b"refused ");
+    let number_end = text::put_decimal(text, word_end, n);
+    text::put_byte(text, number_end, b'\n')
+}
+
+// Works a sheet and puts all that is printed of it at the start of text. It answers how many bytes that is; those past them stay.
+pub fn print_sheet(sheet: &[u8], text: &mut [u8; ROOM]) -> usize
+    ensures counted { λ r. ⌜ Counts r (now (text .exit)) ⌝ }
+    ensures printed { λ r. ⌜ take r (now (text .exit)) ≡ printedOf (now (sheet .entry)) ⌝ }
+    ensures beyond { λ r. ⌜ drop r (now (text .exit)) ≡ drop r (now (text .entry)) ⌝ }
+{
+    let mut out = [0u8; 32768];
+    match sheets::work_sheet(sheet, &mut out) {
+        SheetAnswer::Worked(queries) => put_table(text, &out, queries as usize),
+        SheetAnswer::Refused(stop) => put_refused(text, stop),
+    }
+}
