@@ -1,7 +1,8 @@
 -- What `nearest` asks gives its callees what they ask.
 use Prim.Native.Nat.{ℕ, suc, _+_, _-_, _*_, _≤_}
-use mathlib.Core.List.{List, [], _∷_, head-eq-of-cons-eq, tail-eq-of-cons-eq}
+use mathlib.Core.List.{List, [], _∷_}
 use mathlib.Core.Option.{Option}
+use mathlib.Core.Path.{_≡_}
 use native.Mathlib.Nat.{mul-le-mul-right, mul-add}
 use native.Mathlib.Omega.{arith}
 use Rattle.score_state.specs.Limits.{most32, mostWeight}
@@ -34,7 +35,7 @@ points-le (w ∷ ws) [] h = omega arith
 points-le (w ∷ ws) (g ∷ gs) h =
     omega (arith, mul-le-mul-right (or g 0) (h .0), points-le ws gs (h .1), mul-add mostWeight (or g 0) (givenHits gs))
 
-module _ (w : Weights) (p : ℕ) (g : Five) (remain : Hits) (a : Ask w p g remain) where
+module _ {w : Weights} {p : ℕ} {g : Five} {remain : Hits} (a : Ask w p g remain) where
   pub capped : Capped (unwrapOrZero p (sixOf g))
   unfolding unwrapOrZero
   capped =
@@ -50,14 +51,11 @@ module _ (w : Weights) (p : ℕ) (g : Five) (remain : Hits) (a : Ask w p g remai
   pub light : Light w
   light =
       let h = a .weighting in
-      let e1 = head-eq-of-cons-eq (h .five) in
-      let t1 = tail-eq-of-cons-eq (h .five) in
-      let e2 = head-eq-of-cons-eq t1 in
-      let t2 = tail-eq-of-cons-eq t1 in
-      let e3 = head-eq-of-cons-eq t2 in
-      let t3 = tail-eq-of-cons-eq t2 in
-      let e4 = head-eq-of-cons-eq t3 in
-      let e5 = head-eq-of-cons-eq (tail-eq-of-cons-eq t3) in
+      let e1 : w .n320 ≡ h .n320 = cc (h .five) in
+      let e2 : w .n300 ≡ h .n300 = cc (h .five) in
+      let e3 : w .n200 ≡ h .n200 = cc (h .five) in
+      let e4 : w .n100 ≡ h .n100 = cc (h .five) in
+      let e5 : w .n50 ≡ h .n50 = cc (h .five) in
       record {
         n320 = omega (arith, h .most);
         n300 = omega (arith, h .most, h .perfect);

@@ -70,7 +70,7 @@ last-less M [] f h = absurd (omega arith)
 last-less M (a ∷ []) f h = absurd (omega arith)
 last-less M (a ∷ (b ∷ bs)) f h = last-lt a b bs (f .1 .0) (f .1 .1)
 
-module _ (w : Weights) (p : ℕ) (target : Points) (k : HitResults) (plan : Plan) (pl : Planned w p target plan) (R g : ℕ) where
+module _ {w : Weights} {p : ℕ} {target : Points} {plan : Plan} (pl : Planned w p target plan) (k : HitResults) (R g : ℕ) where
   pub walkable : Falling (suc mostWeight) (missing (weightsOf w) (givensOf p k)) → g + mostWeight * R ≤ most32 → Walkable (lacking p) plan R g
   walkable f l =
       let us = missing (weightsOf w) (givensOf p k) in

@@ -6,7 +6,7 @@ use mathlib.Core.Option.{Option, none, some}
 use mathlib.Core.Path.{_≡_, refl, sym, ap, _∙_}
 use lib.Dec.{eqb, ltb}
 use lib.ListN.{length}
-use native.Mathlib.Nat.{zero-add}
+use native.Mathlib.Nat.{add-zero, zero-add}
 use native.Mathlib.Omega.{arith}
 use borrow.Author.Tests.{ltb-false, lt-ltb, le-ltb, eqb-true, eqb-false, eq-eqb, ne-eqb}
 use Rattle.score_state.specs.Points.{hits, points, weightsOf, countsOf, totalHits}
@@ -88,9 +88,7 @@ unwrap-given false n = refl
 
 pub unwrap-hits : (p : ℕ) (g : HitResults) → g .misses ≡ 0 → totalHits (unwrapOrZero p g) ≡ givenHits (givensOf p g)
 unfolding hits givenHits unwrapOrZero
-unwrap-hits p g e =
-    rw (unwrap-or (has p 1) (g .n320), unwrap-or (has p 2) (g .n300), unwrap-or (has p 4) (g .n200), unwrap-or (has p 8) (g .n100), unwrap-or (has p 16) (g .n50))
-    (omega arith)
+unwrap-hits p g e = rw (e, add-zero) (simp unwrap-or refl)
 
 pub unwrap-points : (w : Weights) (p : ℕ) (g : HitResults) → points (weightsOf w) (countsOf (unwrapOrZero p g)) ≡ givenPoints (weightsOf w) (givensOf p g)
 unfolding points givenPoints unwrapOrZero

@@ -1,4 +1,5 @@
--- What a caller of `nearest` sees: the given counts, the outcome, and what is asked.
+-- What a caller of `nearest` sees: the given counts, the outcome as the definition's Option, and what is asked. The numbers of the two
+-- cases, 0 and 14, are said once, by `foundOf` of generate_laws.
 use Prim.Native.Nat.{ℕ, _*_, _≤_}
 use mathlib.Core.List.{List, [], _∷_}
 use mathlib.Core.Option.{Option, none, some}

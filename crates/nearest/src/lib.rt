@@ -392,75 +392,45 @@ fn best_of(presence: u8, plan: Plan, remain_hits: Hits, points: Points) -> Best
     }
 }
 
-// The count at a place: the given one, that of a, that of c, or the middle's.
-fn place_of(
-    plan: Plan,
-    spread: Spread,
-    presence: u8,
-    place: u8,
-    weight: u32,
-    count: u32,
-    middle: Hits,
-) -> Hits
-    requires { ⌜ 0 < place ⌝ }
-    ensures { λ r. ⌜ r .0 ≡ placeOf (plan .a) (plan .c) (spread .top .0) (spread .rest .0) weight (given (has presence place) count) (middle .0) ⌝ }
-{
-    if inspect::is_given(presence, place) {
-        return Hits(count);
+impl Spread {
+    // The count at a place: the given one, that of a, that of c, or the middle's.
+    fn place_of(
+        self,
+        plan: Plan,
+        presence: u8,
+        place: u8,
+        weight: u32,
+        count: u32,
+        middle: Hits,
+    ) -> Hits
+        requires { ⌜ 0 < place ⌝ }
+        ensures { λ r. ⌜ r .0 ≡ placeOf (plan .a) (plan .c) (self .top .0) (self .rest .0) weight (given (has presence place) count) (middle .0) ⌝ }
+    {
+        if inspect::is_given(presence, place) {
+            return Hits(count);
+        }
+        if weight == plan.a {
+            return self.top;
+        }
+        if weight == plan.c {
+            return self.rest;
+        }
+        middle
     }
-    if weight == plan.a {
-        return spread.top;
-    }
-    if weight == plan.c {
-        return spread.rest;
-    }
-    middle
-}
 
-// A candidate's counts at their places, the given ones among them.
-fn placed(weights: Weights, presence: u8, known: HitResults, plan: Plan, spread: Spread) -> Five
-    ensures { λ r. ⌜ fiveOf r ≡ placesOf weights presence known plan spread ⌝ }
-{
-    let p = presence;
-    let none = Hits(0);
-    Five {
-        n320: place_of(
-            plan,
-            spread,
-            p,
-            inspect::N320,
-            weights.n320,
-            known.n320,
-            none,
-        ),
-        n300: place_of(
-            plan,
-            spread,
-            p,
-            inspect::N300,
-            weights.n300,
-            known.n300,
-            spread.n300,
-        ),
-        n200: place_of(
-            plan,
-            spread,
-            p,
-            inspect::N200,
-            weights.n200,
-            known.n200,
-            spread.n200,
-        ),
-        n100: place_of(
-            plan,
-            spread,
-            p,
-            inspect::N100,
-            weights.n100,
-            known.n100,
-            spread.n100,
-        ),
-        n50: place_of(plan, spread, p, inspect::N50, weights.n50, known.n50, none),
+    // The counts at their places, the given ones among them.
+    fn placed(self, weights: Weights, presence: u8, known: HitResults, plan: Plan) -> Five
+        ensures { λ r. ⌜ fiveOf r ≡ placesOf weights presence known plan self ⌝ }
+    {
+        let p = presence;
+        let none = Hits(0);
+        Five {
+            n320: self.place_of(plan, p, inspect::N320, weights.n320, known.n320, none),
+            n300: self.place_of(plan, p, inspect::N300, weights.n300, known.n300, self.n300),
+            n200: self.place_of(plan, p, inspect::N200, weights.n200, known.n200, self.n200),
+            n100: self.place_of(plan, p, inspect::N100, weights.n100, known.n100, self.n100),
+            n50: self.place_of(plan, p, inspect::N50, weights.n50, known.n50, none),
+        }
     }
 }
 
@@ -479,7 +449,7 @@ fn found(
     let plan = plan_of(weights, presence, target);
     let best = best_of(presence, plan, remain_hits, points);
     Split {
-        counts: placed(weights, presence, known, plan, best.spread),
+        counts: best.spread.placed(weights, presence, known, plan),
         tried: best.tried,
     }
 }

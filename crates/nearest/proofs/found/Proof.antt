@@ -19,8 +19,7 @@ made xs n = record { counts = xs; tried = n }
 best-of-requires : tie.Need-best-of-requires
 best-of-requires c κs =
     let x = c .before .args in
-    let p = c .plan-of in
-    walkable (x .weights) (x .presence) (x .target) (x .known) (p .result) (p .ensures) (x .remain-hits .0) (x .points .0) (c .before .pre .0) (c .before .pre .1)
+    walkable (c .plan-of .ensures) (x .known) (x .remain-hits .0) (x .points .0) (c .before .pre .0) (c .before .pre .1)
 
 returns : tie.Need-returns
 unfolding walkedOf
@@ -29,7 +28,7 @@ returns c =
     let p = c .before .before .plan-of in
     let b = c .before .best-of in
     let r =
-    chosen (x .weights) (x .presence) (x .target) (x .known) (p .result) (p .ensures) (x .remain-hits .0) (x .points .0) (b .result)
+    chosen (p .ensures) (x .known) (x .remain-hits .0) (x .points .0) (b .result)
     (missing (weightsOf (x .weights)) (givensOf (x .presence) (x .known))) refl (c .before .before .before .pre .0)
     (rw (missing-length (x .weights) (x .presence) (x .known)) (b .ensures)) in
     rw (← p .ensures .target) (ap₂ made (c .placed .ensures ∙ sym (r .1)) (r .0))

@@ -44,25 +44,20 @@ within : (c : tie.Else1) → givenHits (givenFive (c .before .before .before .be
 within c = let x = c .before .before .before .before .before .args in stops-room (givenFive (x .presence) (x .given)) (x .remain .0) (goes c)
 
 total-hits-requires : tie.Need-total-hits-requires
-total-hits-requires c κs = let x = c .before .before .args in rw (known c) (capped (x .weights) (x .presence) (x .given) (x .remain) (c .before .before .pre))
+total-hits-requires c κs = rw (known c) (capped (c .before .before .pre))
 
 returns : tie.Need-returns
 unfolding nearest
 returns c = rw (sym (stopped (c .before)) ∙ c .if1 .taken)
 
 points-of-requires : tie.Need-points-of-requires
-points-of-requires c κs =
-    let x = c .before .before .before .before .before .args in
-    let a = c .before .before .before .before .before .pre in
-    (light (x .weights) (x .presence) (x .given) (x .remain) a, rw (known (c .before .before .before)) (capped (x .weights) (x .presence) (x .given) (x .remain) a))
+points-of-requires c κs = (light (c .before .before .before .before .before .pre), rw (known (c .before .before .before)) (capped (c .before .before .before .before .before .pre)))
 
 found-requires : tie.Need-found-requires
-found-requires c κs =
-    let x = c .before .before .before .before .before .before .before .before .args in
-    let a = c .before .before .before .before .before .before .before .before .pre in (
-      rw (c .folded .ensures, known (c .before .before .before .before .before .before)) (falls (x .weights) (x .presence) (x .given) (x .remain) a),
-      rw (points (c .before .before), c .before .minus .ensures, sum (c .before .before .before .before .before)) (fits (x .weights) (x .presence) (x .given) (x .remain) a (within (c .before .before .before))),
-    )
+found-requires c κs = (
+  rw (c .folded .ensures, known (c .before .before .before .before .before .before)) (falls (c .before .before .before .before .before .before .before .before .pre)),
+  rw (points (c .before .before), c .before .minus .ensures, sum (c .before .before .before .before .before)) (fits (c .before .before .before .before .before .before .before .before .pre) (within (c .before .before .before))),
+)
 
 returns-2 : tie.Need-returns-2
 unfolding nearest found walkedOf

@@ -3,8 +3,8 @@ use mathlib.Core.Path.{sym, _∙_}
 use borrow.Author.Needs.{needs}
 use borrow.Author.Tests.{eq-eqb, ne-eqb}
 use Rattle.nearest_laws.specs.Places.{placeOf}
-use Rattle.nearest.proofs.place_of.Statement.{statement}
-use Rattle.nearest.proofs.place_of.Tie as tie
+use Rattle.nearest.proofs.Spread.place_of.Statement.{statement}
+use Rattle.nearest.proofs.Spread.place_of.Tie as tie
 
 returns : tie.Need-returns
 unfolding placeOf

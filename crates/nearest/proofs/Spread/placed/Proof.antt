@@ -1,8 +1,8 @@
 -- `placed` puts each count at its place.
 use borrow.Author.Needs.{needs}
 use Rattle.nearest_laws.specs.Places.{places}
-use Rattle.nearest.proofs.placed.Statement.{statement}
-use Rattle.nearest.proofs.placed.Tie as tie
+use Rattle.nearest.proofs.Spread.placed.Statement.{statement}
+use Rattle.nearest.proofs.Spread.placed.Tie as tie
 
 returns : tie.Need-returns
 unfolding places
