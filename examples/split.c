@@ -1,5 +1,5 @@
 /* Splits one play of 20 notes by Nearest and by Closest, knowing nothing but its accuracy in percent:
- *   gcc -O2 -Iinclude examples/split.c target/staticlib/libcapi.a -lm -o target/split && target/split 57.8
+ *   gcc -O2 -Iinclude examples/split.c target/staticlib/libnuqsillay.a -lm -o target/split && target/split 57.8
  * The last of a line is the accuracy that the six counts have. Try 101, which is refused. */
 #include <inttypes.h>
 #include <stdio.h>

@@ -1,4 +1,4 @@
-/* Nuqsillay: judgement counts of osu!mania plays. Link target/staticlib/libcapi.a, which `rt staticlib capi` writes.
+/* Nuqsillay: judgement counts of osu!mania plays. Link target/staticlib/libnuqsillay.a, which `rt staticlib nuqsillay` writes.
  *
  * Each call answers 0, or the number of the check that refuses its input; a refused call leaves its output as it was.
  *   1   the bytes of a sheet end inside a count or a section
