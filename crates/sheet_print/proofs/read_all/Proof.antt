@@ -60,13 +60,13 @@ same-length-2 : tie.Need-same-length-2 Inv-loop μ-loop
 same-length-2 c = search needs
 
 returns-2 : tie.Need-returns-2 Inv-loop μ-loop
-returns-2 c = counts _ _ (omega arith)
+returns-2 c = let l = c .before .loop in counts (l .done) (l .buf) (omega arith)
 
 same-length-3 : tie.Need-same-length-3 Inv-loop μ-loop
 same-length-3 c = search needs
 
 returns-3 : tie.Need-returns-3 Inv-loop μ-loop
-returns-3 c = counts _ _ (omega arith)
+returns-3 c = counts (c .before .before .before .before .before .before .before .before .before .before .loop .done) _ (omega arith)
 
 pub read-all-spec : {M : Type 1} → statement M
 read-all-spec =
