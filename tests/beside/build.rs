@@ -82,7 +82,10 @@ fn main() {
     fs::write(out.join("tree.rs"), tree).unwrap();
 
     let library = root.join("target/staticlib");
-    println!("cargo::rerun-if-changed={}/libnuqsillay.a", library.display());
+    println!(
+        "cargo::rerun-if-changed={}/libnuqsillay.a",
+        library.display()
+    );
     println!("cargo::rustc-link-search=native={}", library.display());
     println!("cargo::rustc-link-lib=static=nuqsillay");
     println!("cargo::rustc-link-lib=m");

@@ -42,7 +42,10 @@ pub fn stored() -> Vec<(&'static str, Vec<u8>)> {
         ("no_queries.sheet", sheet::bytes(&[], &[])),
         ("cut.sheet", example[..example.len() - 1].to_vec()),
         ("charts_over.sheet", 257_u32.to_le_bytes().to_vec()),
-        ("queries_over.sheet", with(&[0; 4], &1_025_u32.to_le_bytes())),
+        (
+            "queries_over.sheet",
+            with(&[0; 4], &1_025_u32.to_le_bytes()),
+        ),
         ("one_byte_follows.sheet", with(&example, &[0])),
         ("full.sheet", full(&mut Rng::new(1))),
         ("full_one_follows.sheet", with(&zeros, &[0])),
