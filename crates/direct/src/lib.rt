@@ -11,11 +11,11 @@ use inspect::Accuracy;
 use inspect::Chart;
 use inspect::Query;
 
-// The accuracy where its bit of presence, 64, is set.
+// The accuracy where its bit of presence is set.
 fn acc_of(presence: u8, acc: f64) -> Accuracy
     ensures { λ r. ⌜ r ≡ accBy (has presence 64) acc ⌝ }
 {
-    if inspect::is_given(presence, 64) {
+    if inspect::is_given(presence, inspect::ACC) {
         Accuracy::Given(acc)
     } else {
         Accuracy::Absent

@@ -27,14 +27,14 @@ fn fields_left(row: Row) -> bool
     ensures { λ r. ⌜ r ≡ fieldsLeft row ⌝ }
 {
     let p = row.presence;
-    let n320 = left_over(p, 1, row.n320 > 0);
-    let n300 = left_over(p, 2, row.n300 > 0);
-    let n200 = left_over(p, 4, row.n200 > 0);
-    let n100 = left_over(p, 8, row.n100 > 0);
-    let n50 = left_over(p, 16, row.n50 > 0);
-    let misses = left_over(p, 32, row.misses > 0);
-    let acc = left_over(p, 64, row.acc > 0);
-    let passed = left_over(p, 128, row.passed > 0);
+    let n320 = left_over(p, inspect::N320, row.n320 > 0);
+    let n300 = left_over(p, inspect::N300, row.n300 > 0);
+    let n200 = left_over(p, inspect::N200, row.n200 > 0);
+    let n100 = left_over(p, inspect::N100, row.n100 > 0);
+    let n50 = left_over(p, inspect::N50, row.n50 > 0);
+    let misses = left_over(p, inspect::MISSES, row.misses > 0);
+    let acc = left_over(p, inspect::ACC, row.acc > 0);
+    let passed = left_over(p, inspect::PASSED, row.passed > 0);
     n320 | n300 | n200 | n100 | n50 | misses | acc | passed | (row.zeros > 0)
 }
 
