@@ -18,7 +18,7 @@ use Rattle.closest_laws.specs.Closest.{Play, Last, six}
 use Rattle.closest.specs.declared.Closest.{Closest}
 use Rattle.closest.specs.declared.Closest.the-variants.{Counts, Overfull}
 use Rattle.closest.specs.declared.Play.{Play as PlayS}
-use Rattle.closest.specs.declared.Last.{Last as LastS}
+use Rattle.closest.specs.declared.Three.{Three}
 use Rattle.closest.specs.declared.Near.{Near}
 use Rattle.closest.specs.declared.Best.{Best}
 use Rattle.closest.specs.declared.Pair.{Pair}
@@ -64,22 +64,22 @@ pub record TwoOfLast (hits n base target light step x y : ℕ) : Type 0 where
 abbrev pub pairView : Pair → List ℕ
 pairView p = p .0 .0 ∷ p .1 .0 ∷ []
 
-abbrev pub lastView : LastS → Last
-lastView l = record { n200 = l .0 .0; n100 = l .1 .0; n50 = l .2 .0 }
+-- three counts as n200, n100 and n50, or the first two of them
+abbrev pub lastView : Three → Last
+lastView t = record { n200 = t .0 .0; n100 = t .1 .0; n50 = t .2 .0 }
 
--- n200 and n100 of so many hits: n50 is the rest
-abbrev pub lastOf : ℕ → Pair → Last
-lastOf hits p = record { n200 = p .0 .0; n100 = p .1 .0; n50 = hits - p .0 .0 - p .1 .0 }
+abbrev pub twoView : Three → List ℕ
+twoView t = t .0 .0 ∷ t .1 .0 ∷ []
 
--- the best pair, read as it is, as a pair of numbers or as the last three
-abbrev pub nearBy : {A : Type 0} → (Pair → A) → Near → Kept (Option ℕ) A
-nearBy f b = record { dist = given (b .found) (b .dist .0); result = f (b .pair) }
+-- the best so far, as it is or by what is read of its counts
+abbrev pub nearBy : {A : Type 0} → (Three → A) → Near → Kept (Option ℕ) A
+nearBy f b = record { dist = given (b .found) (b .dist .0); result = f (b .best) }
 
-abbrev pub nearView : Near → Kept (Option ℕ) Pair
-nearView b = record { dist = given (b .found) (b .dist .0); result = b .pair }
+abbrev pub nearView : Near → Kept (Option ℕ) Three
+nearView b = record { dist = given (b .found) (b .dist .0); result = b .best }
 
-abbrev pub nearTry : Points → Pair → Kept (Option ℕ) Pair
-nearTry d p = record { dist = some (d .0); result = p }
+abbrev pub nearTry : Points → Three → Kept (Option ℕ) Three
+nearTry d t = record { dist = some (d .0); result = t }
 
 abbrev pub bestView : Best → Kept Float HitResults
 bestView b = record { dist = b .dist; result = b .result }

@@ -3,10 +3,11 @@
 ghost use mathlib.Core.Path.{_≡_};
 ghost use mathlib.Core.List.{List, [], _∷_};
 ghost use mathlib.Core.Option.{Option, none};
-ghost use Prim.Native.Nat.{ℕ, _+_, _-_, _*_, _<_, _≤_};
+ghost use Prim.Native.Nat.{ℕ, _+_, _-_, _*_, _/_, _<_, _≤_};
 ghost use lib.Dec.{T};
 ghost use lib.Ieee as Ieee;
 ghost use Rattle.rounding.specs.Round.{zero64, one64};
+ghost use Rattle.rounding.specs.Quotient.{roundedUp};
 ghost use Rattle.score_state.specs.Limits.{most32, mostHits, mostWeight, mostPoints};
 ghost use Rattle.score_state.specs.Points.{countsOf};
 ghost use Rattle.score_state.specs.Given.{missing, fill};
@@ -16,8 +17,8 @@ ghost use Rattle.inspect.specs.Inspect.{inspectOf};
 ghost use Rattle.inspect.specs.Checks.{Domain};
 ghost use Rattle.closest_laws.specs.Loops.{range, firstTwo, offer, scan, nearer};
 ghost use Rattle.closest_laws.specs.Closest as Laws;
-ghost use Rattle.closest_laws.specs.Closest.{playOf, closestAt, provided, weights, splitAt, solveTwo, lastAt, optimizeLastThree, inner, outer, optimizeThreePlusMissing, clampAndFill, byMissing};
-ghost use Rattle.closest.specs.Code.{answerOf, playView, Within, TwoOfLast, pairView, lastView, lastOf, nearView, nearBy, nearTry, bestView, bestTry};
+ghost use Rattle.closest_laws.specs.Closest.{playOf, closestAt, provided, weights, splitAt, bestSplit, solveTwo, lastAt, optimizeLastThree, inner, outer, optimizeThreePlusMissing, clampAndFill, byMissing};
+ghost use Rattle.closest.specs.Code.{answerOf, playView, Within, TwoOfLast, pairView, twoView, lastView, nearView, nearBy, nearTry, bestView, bestTry};
 use inspect::Missing;
 use inspect::Query;
 use score_state::HitResults;
@@ -104,6 +105,9 @@ fn clamp_and_fill(play: Play) -> HitResults
 
 // Counts of two judgements, the heavier first.
 pub struct Pair(pub Hits, pub Hits);
+
+// Counts of three judgements, the heaviest first; of two, with 0 for the third.
+pub struct Three(pub Hits, pub Hits, pub Hits);
 
 // A count, and what is left of a pair to fill in.
 pub struct Filled {
@@ -196,22 +200,22 @@ fn missing_weights(play: Play) -> Two
     Two(weights[heavier], weights[lighter])
 }
 
-// The best pair by whole distance; nothing is found at the start.
+// The best two or three counts by whole distance; nothing is found at the start.
 pub struct Near {
     pub found: bool,
     pub dist: Points,
-    pub pair: Pair,
+    pub best: Three,
 }
 
 impl Near {
-    fn offer(mut self, dist: Points, pair: Pair) -> Near
-        ensures { λ r. ⌜ nearView r ≡ offer nearer (nearTry dist pair) (nearView self) ⌝ }
+    fn offer(mut self, dist: Points, counts: Three) -> Near
+        ensures { λ r. ⌜ nearView r ≡ offer nearer (nearTry dist counts) (nearView self) ⌝ }
     {
         let fresh = !self.found;
         self.found = true;
         if fresh || dist.less(self.dist) {
             self.dist = dist;
-            self.pair = pair;
+            self.best = counts;
         }
         self
     }
@@ -219,11 +223,11 @@ impl Near {
     // x of the hits have the weight w1, the others w2.
     fn split_at(self, w1: u32, w2: u32, hits: Hits, sum: Points, target: Points, x: Hits) -> Near
         requires { ⌜ (w1 ≤ mostWeight) × (w2 ≤ mostWeight) × (hits .0 ≤ mostHits) × (sum .0 ≤ mostPoints) × (x .0 ≤ hits .0) ⌝ }
-        ensures { λ r. ⌜ nearBy pairView r ≡ offer nearer (splitAt w1 w2 (target .0) (hits .0) (sum .0) (x .0)) (nearBy pairView self) ⌝ }
+        ensures { λ r. ⌜ nearBy twoView r ≡ offer nearer (splitAt w1 w2 (target .0) (hits .0) (sum .0) (x .0)) (nearBy twoView self) ⌝ }
     {
         let y = hits.minus(x);
         let score = sum.plus(x.times(w1).plus(y.times(w2)));
-        self.offer(score.gap(target), Pair(x, y))
+        self.offer(score.gap(target), Three(x, y, Hits(0)))
     }
 }
 
@@ -239,16 +243,33 @@ fn solve_two_vars(w1: u32, w2: u32, remain_hits: Hits, provided_sum: Points, tar
     let step = w1 - w2;
     let floor = remain_hits.least(raw_x.steps(step).count);
     let ceil = remain_hits.least(raw_x.div_ceil(step));
+    best_of_four(w1, w2, remain_hits, provided_sum, target, floor, ceil)
+}
+
+// None of the hits at the weight w1, floor, ceil, or all of them.
+fn best_of_four(
+    w1: u32,
+    w2: u32,
+    hits: Hits,
+    sum: Points,
+    target: Points,
+    floor: Hits,
+    ceil: Hits,
+) -> Pair
+    requires { ⌜ (w1 ≤ mostWeight) × (w2 ≤ mostWeight) × (hits .0 ≤ mostHits) × (sum .0 ≤ mostPoints) × (floor .0 ≤ hits .0) × (ceil .0 ≤ hits .0) ⌝ }
+    ensures { λ r. ⌜ pairView r ≡ bestSplit w1 w2 (target .0) (hits .0) (sum .0) (0 ∷ floor .0 ∷ ceil .0 ∷ hits .0 ∷ []) ⌝ }
+{
     let none = Near {
         found: false,
         dist: Points(0),
-        pair: Pair(Hits(0), remain_hits),
+        best: Three(Hits(0), hits, Hits(0)),
     };
-    let first = none.split_at(w1, w2, remain_hits, provided_sum, target, Hits(0));
-    let second = first.split_at(w1, w2, remain_hits, provided_sum, target, floor);
-    let third = second.split_at(w1, w2, remain_hits, provided_sum, target, ceil);
-    let fourth = third.split_at(w1, w2, remain_hits, provided_sum, target, remain_hits);
-    fourth.pair
+    let first = none.split_at(w1, w2, hits, sum, target, Hits(0));
+    let second = first.split_at(w1, w2, hits, sum, target, floor);
+    let third = second.split_at(w1, w2, hits, sum, target, ceil);
+    let fourth = third.split_at(w1, w2, hits, sum, target, hits);
+    let Three(x, y, _) = fourth.best;
+    Pair(x, y)
 }
 
 // The best by f64 distance.
@@ -308,23 +329,21 @@ fn min_space_needed(play: Play) -> Hits
     Hits(c.n200).plus(Hits(c.n100)).plus(Hits(c.n50))
 }
 
-// A given count is clamped to the room; a missing one runs over the first two values from lo to hi within it.
-fn values(present: bool, n: Hits, room: Hits, lo: Hits, hi: Hits) -> Span
-    requires { ⌜ room .0 ≤ mostHits ⌝ }
-    ensures { λ r. ⌜ (range (r .lo .0) (r .hi .0) ≡ Laws.values firstTwo (given present (n .0)) (room .0) (lo .0) (hi .0)) × (r .hi .0 ≤ room .0) ⌝ }
+// The values of a count of this weight, of so many hits and for so many points: a given one is clamped to the room, a missing one
+// runs over the first two of the Rust's values within it.
+fn values(present: bool, n: Hits, room: Hits, hits: Hits, target: Points, weight: u32) -> Span
+    requires { ⌜ (room .0 ≤ mostHits) × (hits .0 ≤ mostHits) × (target .0 ≤ mostPoints) × (10 < weight) × (weight ≤ mostWeight) ⌝ }
+    ensures { λ r. ⌜ (range (r .lo .0) (r .hi .0) ≡ Laws.values firstTwo (given present (n .0)) (room .0) ((target .0 - 10 * hits .0) / (weight - 10)) (roundedUp (target .0) weight + 1)) × (r .hi .0 ≤ room .0) ⌝ }
 {
-    if present {
-        let clamped = n.least(room);
-        return Span {
-            lo: clamped,
-            hi: clamped,
-        };
+    let mut lo = n.least(room);
+    let mut hi = lo;
+    if !present {
+        let min_raw = target.saturating_sub(hits.times(10));
+        lo = room.least(min_raw.steps(weight - 10).count);
+        let max_val = target.div_ceil(weight).plus(Hits(1));
+        hi = room.least(max_val).least(lo.plus(Hits(1)));
     }
-    let first = room.least(lo);
-    Span {
-        lo: first,
-        hi: room.least(hi).least(first.plus(Hits(1))),
-    }
+    Span { lo: lo, hi: hi }
 }
 
 fn n320_values(play: Play) -> Span
@@ -332,26 +351,29 @@ fn n320_values(play: Play) -> Span
     ensures { λ r. ⌜ (range (r .lo .0) (r .hi .0) ≡ Laws.values320 firstTwo (playView play)) × (r .hi .0 ≤ play .remain .0) ⌝ }
 {
     let given = inspect::is_given(play.presence, inspect::N320);
+    let n = Hits(play.counts.n320);
     let room = play.remain.saturating_sub(min_space_needed(play));
-    let min_raw = play.target_numerator.saturating_sub(play.remain.times(10));
-    let min_val = min_raw.steps(play.w320 - 10).count;
-    let max_val = play.target_numerator.div_ceil(play.w320).plus(Hits(1));
-    values(given, Hits(play.counts.n320), room, min_val, max_val)
+    values(
+        given,
+        n,
+        room,
+        play.remain,
+        play.target_numerator,
+        play.w320,
+    )
 }
 
 fn n300_values(play: Play, new320: Hits) -> Span
     requires { ⌜ Within play × (new320 .0 ≤ play .remain .0) ⌝ }
     ensures { λ r. ⌜ (range (r .lo .0) (r .hi .0) ≡ Laws.values300 firstTwo (playView play) (new320 .0)) × (r .hi .0 ≤ play .remain .0 - new320 .0) ⌝ }
 {
-    let target = play.target_numerator;
     let given = inspect::is_given(play.presence, inspect::N300);
-    let score_320 = new320.times(play.w320);
+    let n = Hits(play.counts.n300);
     let remain_after_320 = play.remain.minus(new320);
     let room = remain_after_320.saturating_sub(min_space_needed(play));
-    let min_raw = target.saturating_sub(score_320.plus(remain_after_320.times(10)));
-    let min_val = min_raw.steps(50).count;
-    let max_val = target.saturating_sub(score_320).div_ceil(60).plus(Hits(1));
-    values(given, Hits(play.counts.n300), room, min_val, max_val)
+    let target_after_320 = play.target_numerator
+        .saturating_sub(new320.times(play.w320));
+    values(given, n, room, remain_after_320, target_after_320, 60)
 }
 
 impl Best {
@@ -375,7 +397,7 @@ impl Best {
             return self;
         }
         let score_300 = new320.times(play.w320).plus(new300.times(60));
-        let Last(n200, n100, n50) = optimize_last_three(play, remain_after_300, score_300);
+        let Three(n200, n100, n50) = optimize_last_three(play, remain_after_300, score_300);
         let result = HitResults::of(new320, new300, n200, n100, n50, Hits(play.counts.misses));
         self.offer(accuracy_distance(play, result), result)
     }
@@ -405,19 +427,13 @@ fn accuracy_distance(play: Play, result: HitResults) -> f64
     ensures { λ r. ⌜ r ≡ Laws.tryAt (playView play) result .dist ⌝ }
 {
     let actual_acc = score_state::accuracy_of(result, play.w320 == 60);
-    let target = play.target_numerator.as_f64();
-    let whole = play.remain
-        .plus(Hits(play.counts.misses))
-        .times(play.w320)
-        .as_f64();
-    rounding::distance_of(actual_acc, target / whole)
+    let total_hits = play.remain.plus(Hits(play.counts.misses));
+    let target_acc = play.target_numerator.ratio(total_hits.times(play.w320));
+    rounding::distance_of(actual_acc, target_acc)
 }
 
-// n200, n100 and n50.
-pub struct Last(pub Hits, pub Hits, pub Hits);
-
 // The last three values, of the hits that are left, with so many points earned.
-fn optimize_last_three(play: Play, remain: Hits, earned: Points) -> Last
+fn optimize_last_three(play: Play, remain: Hits, earned: Points) -> Three
     requires { ⌜ Within play × (earned .0 + mostWeight * remain .0 ≤ mostPoints) ⌝ }
     ensures { λ r. ⌜ lastView r ≡ optimizeLastThree firstTwo (playView play .n200) (playView play .n100) (playView play .n50) (remain .0) (earned .0) (play .«target_numerator» .0) ⌝ }
 {
@@ -426,72 +442,87 @@ fn optimize_last_three(play: Play, remain: Hits, earned: Points) -> Last
     let n1 = Hits(play.counts.n100);
     let n5 = Hits(play.counts.n50);
     match play.presence / 4 % 8 {
-        0b111 => Last(n2, n1, n5),
-        0b011 => Last(n2, n1, remain.saturating_sub(n2.plus(n1))),
-        0b101 => Last(n2, remain.saturating_sub(n2.plus(n5)), n5),
-        0b110 => Last(remain.saturating_sub(n1.plus(n5)), n1, n5),
+        0b111 => Three(n2, n1, n5),
+        0b011 => Three(n2, n1, remain.saturating_sub(n2.plus(n1))),
+        0b101 => Three(n2, remain.saturating_sub(n2.plus(n5)), n5),
+        0b110 => Three(remain.saturating_sub(n1.plus(n5)), n1, n5),
         0b001 => {
-            let base = earned.plus(n2.times(40));
-            let Pair(n100, n50) = two_of_last(remain, n2, base, target, 10, 10);
-            Last(n2, n100, n50)
+            let Pair(n100, n50) = two_of_last(remain, n2, 40, earned, target, 10, 10);
+            Three(n2, n100, n50)
         }
         0b010 => {
-            let base = earned.plus(n1.times(20));
-            let Pair(n200, n50) = two_of_last(remain, n1, base, target, 10, 30);
-            Last(n200, n1, n50)
+            let Pair(n200, n50) = two_of_last(remain, n1, 20, earned, target, 10, 30);
+            Three(n200, n1, n50)
         }
         0b100 => {
-            let base = earned.plus(n5.times(10));
-            let Pair(n200, n100) = two_of_last(remain, n5, base, target, 20, 20);
-            Last(n200, n100, n5)
+            let Pair(n200, n100) = two_of_last(remain, n5, 10, earned, target, 20, 20);
+            Three(n200, n100, n5)
         }
         _ => all_three(remain, earned, target),
     }
 }
 
-// One of the three is given, n of it, with base points so far; the others weigh light and light + step.
-fn two_of_last(remain: Hits, n: Hits, base: Points, target: Points, light: u32, step: u32) -> Pair
-    requires { ⌜ (base .0 + light * remain .0 ≤ most32) × (target .0 ≤ mostPoints) × (0 < step) × (step ≤ mostWeight) ⌝ }
-    ensures { λ r. ⌜ TwoOfLast (remain .0) (n .0) (base .0) (target .0) light step (r .0 .0) (r .1 .0) ⌝ }
+// One of the three is given, n of this weight; the others weigh light and light + step.
+fn two_of_last(
+    remain: Hits,
+    n: Hits,
+    weight: u32,
+    earned: Points,
+    target: Points,
+    light: u32,
+    step: u32,
+) -> Pair
+    requires { ⌜ (earned .0 + weight * n .0 + light * remain .0 ≤ most32) × (target .0 ≤ mostPoints) × (0 < step) × (step ≤ mostWeight) ⌝ }
+    ensures { λ r. ⌜ TwoOfLast (remain .0) (n .0) (earned .0 + weight * n .0) (target .0) light step (r .0 .0) (r .1 .0) ⌝ }
 {
     let remaining = remain.saturating_sub(n);
+    let base = earned.plus(n.times(weight));
     let raw = target.saturating_sub(base.plus(remaining.times(light)));
     let x = remaining.least(raw.div_round_ties_even(step));
     Pair(x, remaining.saturating_sub(x))
 }
 
 // All three missing.
-fn all_three(remain: Hits, earned: Points, target: Points) -> Last
+fn all_three(remain: Hits, earned: Points, target: Points) -> Three
     requires { ⌜ (earned .0 + mostWeight * remain .0 ≤ mostPoints) × (target .0 ≤ mostPoints) ⌝ }
     ensures { λ r. ⌜ lastView r ≡ optimizeLastThree firstTwo none none none (remain .0) (earned .0) (target .0) ⌝ }
 {
-    let min_raw = target.saturating_sub(earned.plus(remain.times(20)));
-    let min200 = min_raw.steps(20).count;
-    let max200 = remain.least(target.saturating_sub(earned).div_ceil(40).plus(Hits(1)));
-    let end = max200.least(min200.plus(Hits(1)));
+    let span = n200_values(remain, earned, target);
     let mut best = Near {
         found: false,
         dist: Points(0),
-        pair: Pair(Hits(0), Hits(0)),
+        best: Three(Hits(0), Hits(0), remain),
     };
-    let mut new200 = min200;
-    while !end.less(new200) {
+    let mut new200 = span.lo;
+    while !span.hi.less(new200) {
         best = best.last_at(remain, earned, target, new200);
         new200 = new200.plus(Hits(1));
     }
-    let Pair(n200, n100) = best.pair;
-    Last(n200, n100, remain.saturating_sub(n200).saturating_sub(n100))
+    best.best
+}
+
+fn n200_values(remain: Hits, earned: Points, target: Points) -> Span
+    requires { ⌜ (earned .0 + mostWeight * remain .0 ≤ mostPoints) × (target .0 ≤ mostPoints) ⌝ }
+    ensures { λ r. ⌜ (range (r .lo .0) (r .hi .0) ≡ Laws.values200 firstTwo (remain .0) (earned .0) (target .0)) × (r .hi .0 ≤ remain .0) ⌝ }
+{
+    let min_raw = target.saturating_sub(earned.plus(remain.times(20)));
+    let min200 = min_raw.steps(20).count;
+    let max_raw = target.saturating_sub(earned);
+    let max200 = remain.least(max_raw.div_ceil(40).plus(Hits(1)));
+    Span {
+        lo: min200,
+        hi: max200.least(min200.plus(Hits(1))),
+    }
 }
 
 impl Near {
     // n200 of the hits are n200; n100 comes by rounding, and n50 is the rest.
     fn last_at(self, remain: Hits, earned: Points, target: Points, n200: Hits) -> Near
         requires { ⌜ (earned .0 + mostWeight * remain .0 ≤ mostPoints) × (target .0 ≤ mostPoints) × (n200 .0 ≤ remain .0) ⌝ }
-        ensures { λ r. ⌜ nearBy (lastOf (remain .0)) r ≡ offer nearer (lastAt (remain .0) (earned .0) (target .0) (n200 .0)) (nearBy (lastOf (remain .0)) self) ⌝ }
+        ensures { λ r. ⌜ nearBy lastView r ≡ offer nearer (lastAt (remain .0) (earned .0) (target .0) (n200 .0)) (nearBy lastView self) ⌝ }
     {
-        let heavy = n200.times(40);
-        let Pair(n100, n50) = two_of_last(remain, n200, earned.plus(heavy), target, 10, 10);
-        let score = earned.plus(heavy.plus(n100.times(20)).plus(n50.times(10)));
-        self.offer(score.gap(target), Pair(n200, n100))
+        let Pair(n100, n50) = two_of_last(remain, n200, 40, earned, target, 10, 10);
+        let score = n200.times(40).plus(n100.times(20)).plus(n50.times(10));
+        self.offer(earned.plus(score).gap(target), Three(n200, n100, n50))
     }
 }

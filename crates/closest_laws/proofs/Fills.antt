@@ -18,7 +18,7 @@ use Rattle.inspect.specs.Inspect.{Inspect, remain}
 use Rattle.score_state.specs.Answer.{Answer, worked}
 use Rattle.closest_laws.specs.Loops.{Kept, each, offer, scan, nearer}
 use Rattle.rounding.specs.Quotient.{roundedUp}
-use Rattle.closest_laws.specs.Closest.{Play, provided, weights, resultOf, splitAt, solveTwo, solve, optimizeTwoMissing, optimizeThreePlusMissing, clamp, clampAndFill, six, byMissing, playOf, closestAt}
+use Rattle.closest_laws.specs.Closest.{Play, provided, weights, resultOf, splitAt, bestSplit, solveTwo, solve, optimizeTwoMissing, optimizeThreePlusMissing, clamp, clampAndFill, six, byMissing, playOf, closestAt}
 use Rattle.inspect.specs.Presence.{has, given, fiveGiven, lacking}
 use Rattle.closest_laws.proofs.Bits.{missing-count}
 
@@ -71,7 +71,7 @@ unfolding or
 or-clamped true n m left z e = refl
 or-clamped false n m left z e = omega arith
 
-minus-two : (r a b : ℕ) → r - a - b ≡ r - (a + b)
+pub minus-two : (r a b : ℕ) → r - a - b ≡ r - (a + b)
 minus-two r a b = omega arith
 
 minus-five : (r a b c d e : ℕ) → r - a - b - c - d - e ≡ r - (a + (b + (c + (d + (e + 0)))))
@@ -129,14 +129,19 @@ module _
 
 -- ---- two missing
 pub four
-    : (w1 w2 T h P : ℕ) {v down up : ℕ} {b1 b2 b3 b4 : Kept (Option ℕ) (List ℕ)} → (w1 ≡ w2 → ⊥)
-    → v ≡ T - (P + w2 * h) → down ≡ min h (v / (w1 - w2)) → up ≡ min h (roundedUp v (w1 - w2))
+    : (w1 w2 T h P down up : ℕ) {b1 b2 b3 b4 : Kept (Option ℕ) (List ℕ)}
     → b1 ≡ offer nearer (splitAt w1 w2 T h P 0) (record { dist = none; result = 0 ∷ h ∷ [] }) → b2 ≡ offer nearer (splitAt w1 w2 T h P down) b1
     → b3 ≡ offer nearer (splitAt w1 w2 T h P up) b2 → b4 ≡ offer nearer (splitAt w1 w2 T h P h) b3
-    → b4 .result ≡ solveTwo w1 w2 T h P
-unfolding solveTwo scan each
-four w1 w2 T h P n ev ed eu e1 e2 e3 e4 =
-    ap (λ (b : Kept (Option ℕ) (List ℕ)). b .result) e4 ∙ rw (e3, e2, e1, eu, ed, ev, ne-eqb w1 w2 n)
+    → b4 .result ≡ bestSplit w1 w2 T h P (0 ∷ down ∷ up ∷ h ∷ [])
+unfolding scan each
+four w1 w2 T h P down up e1 e2 e3 e4 = ap (λ (b : Kept (Option ℕ) (List ℕ)). b .result) e4 ∙ rw (e3, e2, e1)
+
+pub solved-by-four
+    : (w1 w2 T h P : ℕ) {v down up : ℕ} {xs : List ℕ} → (w1 ≡ w2 → ⊥)
+    → v ≡ T - (P + w2 * h) → down ≡ min h (v / (w1 - w2)) → up ≡ min h (roundedUp v (w1 - w2))
+    → xs ≡ bestSplit w1 w2 T h P (0 ∷ down ∷ up ∷ h ∷ []) → xs ≡ solveTwo w1 w2 T h P
+unfolding solveTwo
+solved-by-four w1 w2 T h P n ev ed eu e = e ∙ rw (eu, ed, ev, ne-eqb w1 w2 n)
 
 pub two-is
     : (p : Play) {w1 w2 h g : ℕ} {xs : List ℕ} {f : HitResults} → missing (weights p) (provided p) ≡ w1 ∷ w2 ∷ [] → h ≡ p .remain - givenHits (provided p)

@@ -12,7 +12,7 @@ use Rattle.score_state.specs.Given.{or}
 use Rattle.inspect.specs.Presence.{given}
 use Rattle.closest_laws.specs.Loops.{Kept, from, range, firstTwo, each, offer, scan, nearer}
 use Rattle.rounding.specs.Quotient.{roundedUp}
-use Rattle.closest_laws.specs.Closest.{Last, lastAt, optimizeLastThree, values}
+use Rattle.closest_laws.specs.Closest.{Last, lastAt, values200, optimizeLastThree, values}
 use Rattle.closest_laws.proofs.Scan.{scan-append}
 
 -- ---- an offer
@@ -85,13 +85,11 @@ module _ {K A : Type 0} (less : K → K → Bool) (f : ℕ → List (Kept K A)) 
 
 -- ---- all of the last three missing
 pub all-is
-    : (r A T lo hi : ℕ) (b : Kept (Option ℕ) Last) → lo ≡ (T - (A + 20 * r)) / 20 → hi ≡ min (min r (roundedUp (T - A) 40 + 1)) (lo + 1)
-    → b ≡ scan nearer (each (range lo hi) (λ n. lastAt r A T n ∷ [])) (record { dist = none; result = record { n200 = 0; n100 = 0; n50 = r - 0 - 0 } })
+    : (r A T lo hi : ℕ) (b : Kept (Option ℕ) Last) → range lo hi ≡ values200 firstTwo r A T
+    → b ≡ scan nearer (each (range lo hi) (λ n. lastAt r A T n ∷ [])) (record { dist = none; result = record { n200 = 0; n100 = 0; n50 = r } })
     → b .result ≡ optimizeLastThree firstTwo none none none r A T
-unfolding optimizeLastThree firstTwo
-all-is r A T lo hi b el eh eb =
-    let z : r - 0 - 0 ≡ r = omega arith in
-    ap (λ (x : Kept (Option ℕ) Last). x .result) eb ∙ rw (z, eh, add-one lo, el)
+unfolding optimizeLastThree
+all-is r A T lo hi b e eb = ap (λ (x : Kept (Option ℕ) Last). x .result) eb ∙ rw e
 
 -- ---- the ends of the loops
 pub values-one : (h : Bool) (n room lo hi m : ℕ) → h ≡ true → m ≡ min n room → range m m ≡ values firstTwo (given h n) room lo hi
@@ -100,11 +98,15 @@ values-one h n room lo hi m e em =
     let z : suc m - m ≡ suc zero = omega arith in
     ap (λ (k : ℕ). from m k) z ∙ rw (em, e)
 
+pub two-values : {lo hi l t u : ℕ} → l ≡ lo → t ≡ hi → u ≡ min t (l + 1) → range l u ≡ firstTwo lo hi
+unfolding firstTwo
+two-values {lo} {hi} {l} el et eu = rw (eu, add-one l, et, el)
+
 pub values-two
     : (h : Bool) (n room lo hi l t u : ℕ) → h ≡ false → l ≡ min room lo → t ≡ min room hi → u ≡ min t (l + 1)
     → range l u ≡ values firstTwo (given h n) room lo hi
-unfolding values firstTwo
-values-two h n room lo hi l t u e el et eu = rw (eu, add-one l, e, et, el)
+unfolding values
+values-two h n room lo hi l t u e el et eu = rw e (two-values el et eu)
 
 -- `unwrap_or` of a count that is 0 where it is missing
 pub or-given : (h : Bool) (n d : ℕ) → h ≡ true → or (given h n) d ≡ n

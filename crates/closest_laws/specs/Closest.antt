@@ -59,13 +59,16 @@ resultOf xs misses =
 unfoldable pub splitAt : ℕ → ℕ → ℕ → ℕ → ℕ → ℕ → Kept (Option ℕ) (List ℕ)
 splitAt w1 w2 T h P x = record { dist = some (gap (P + (w1 * x + w2 * (h - x))) T); result = x ∷ (h - x) ∷ [] }
 
+-- the loop of solve_two_vars over its four numbers of hits: the first at the least distance
+abbrev pub bestSplit : ℕ → ℕ → ℕ → ℕ → ℕ → List ℕ → List ℕ
+bestSplit w1 w2 T h P xs = scan nearer (each xs (λ x. splitAt w1 w2 T h P x ∷ [])) (record { dist = none; result = 0 ∷ h ∷ [] }) .result
+
 -- solve_two_vars
 unfoldable pub solveTwo : ℕ → ℕ → ℕ → ℕ → ℕ → List ℕ
 solveTwo w1 w2 T h P =
     let over = T - (P + w2 * h) in
-    let tries : List ℕ = 0 ∷ min h (over / (w1 - w2)) ∷ min h (roundedUp over (w1 - w2)) ∷ h ∷ [] in
-    let found = scan nearer (each tries (λ x. splitAt w1 w2 T h P x ∷ [])) (record { dist = none; result = 0 ∷ h ∷ [] }) in
-    cond (eqb w1 w2) (h / 2 ∷ (h - h / 2) ∷ []) (found .result)
+    cond (eqb w1 w2) (h / 2 ∷ (h - h / 2) ∷ [])
+    (bestSplit w1 w2 T h P (0 ∷ min h (over / (w1 - w2)) ∷ min h (roundedUp over (w1 - w2)) ∷ h ∷ []))
 
 -- of the two missing weights, the heavier first
 unfoldable pub solve : List ℕ → ℕ → ℕ → ℕ → List ℕ
@@ -94,6 +97,10 @@ lastAt r A T n =
     let n50 = k - n100 in
     record { dist = some (gap (A + (40 * n + 20 * n100 + 10 * n50)) T); result = record { n200 = n; n100 = n100; n50 = n50 } }
 
+-- min200..=max200
+abbrev pub values200 : (ℕ → ℕ → List ℕ) → ℕ → ℕ → ℕ → List ℕ
+values200 span r A T = span ((T - (A + 20 * r)) / 20) (min r (roundedUp (T - A) 40 + 1))
+
 unfoldable pub optimizeLastThree : (ℕ → ℕ → List ℕ) → Option ℕ → Option ℕ → Option ℕ → ℕ → ℕ → ℕ → Last
 optimizeLastThree span (some n2) (some n1) (some n5) r A T = record { n200 = n2; n100 = n1; n50 = n5 }
 optimizeLastThree span (some n2) (some n1) none r A T = record { n200 = n2; n100 = n1; n50 = r - (n2 + n1) }
@@ -112,9 +119,7 @@ optimizeLastThree span none none (some n5) r A T =
     let n200 = min k (closest (T - (A + 10 * n5 + 20 * k)) 20) in
     record { n200 = n200; n100 = k - n200; n50 = n5 }
 optimizeLastThree span none none none r A T =
-    let min200 = (T - (A + 20 * r)) / 20 in
-    let max200 = min r (roundedUp (T - A) 40 + 1) in
-    scan nearer (each (span min200 max200) (λ n. lastAt r A T n ∷ [])) (record { dist = none; result = record { n200 = 0; n100 = 0; n50 = r } }) .result
+    scan nearer (each (values200 span r A T) (λ n. lastAt r A T n ∷ [])) (record { dist = none; result = record { n200 = 0; n100 = 0; n50 = r } }) .result
 
 -- ---- optimize_three_plus_missing (lines 351 to 467)
 

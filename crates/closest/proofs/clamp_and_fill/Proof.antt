@@ -9,40 +9,40 @@ use Rattle.closest.proofs.clamp_and_fill.Statement.{statement}
 use Rattle.closest.proofs.clamp_and_fill.Tie as tie
 
 least-requires : tie.Need-least-requires
-least-requires c κs = search needs
+least-requires c κs = tt
 
 minus-requires : tie.Need-minus-requires
 minus-requires c κs = search needs
 
 least-requires-2 : tie.Need-least-requires-2
-least-requires-2 c κs = search needs
+least-requires-2 c κs = tt
 
 minus-requires-2 : tie.Need-minus-requires-2
 minus-requires-2 c κs = search needs
 
 least-requires-3 : tie.Need-least-requires-3
-least-requires-3 c κs = search needs
+least-requires-3 c κs = tt
 
 minus-requires-3 : tie.Need-minus-requires-3
 minus-requires-3 c κs = search needs
 
 least-requires-4 : tie.Need-least-requires-4
-least-requires-4 c κs = search needs
+least-requires-4 c κs = tt
 
 minus-requires-4 : tie.Need-minus-requires-4
 minus-requires-4 c κs = omega (arith, c .least4 .ensures)
 
 least-requires-5 : tie.Need-least-requires-5
-least-requires-5 c κs = search needs
+least-requires-5 c κs = tt
 
 minus-requires-5 : tie.Need-minus-requires-5
 minus-requires-5 c κs = omega (arith, c .least5 .ensures)
 
 of-requires : tie.Need-of-requires
-of-requires c κs = search needs
+of-requires c κs = tt
 
 fill-in-requires : tie.Need-fill-in-requires
-fill-in-requires c κs = search needs
+fill-in-requires c κs = tt
 
 returns : tie.Need-returns
 returns c =

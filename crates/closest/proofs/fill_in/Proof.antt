@@ -27,7 +27,7 @@ next-requires-5 : tie.Need-next-requires-5
 next-requires-5 c κs = search needs
 
 of-requires : tie.Need-of-requires
-of-requires c κs = search needs
+of-requires c κs = tt
 
 returns : tie.Need-returns
 unfolding fill

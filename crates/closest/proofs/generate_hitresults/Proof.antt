@@ -11,7 +11,7 @@ play-of-requires : tie.Need-play-of-requires
 play-of-requires c κs = search needs
 
 is-zero-requires : tie.Need-is-zero-requires
-is-zero-requires c κs = search needs
+is-zero-requires c κs = tt
 
 returns : tie.Need-returns
 returns c =

@@ -30,7 +30,7 @@ three : (c : tie.After-enum-told2) → 3 ≤ lacking (c .before .before .before 
 three c = is-three-plus (lacking (c .before .before .before .args .play .presence)) (sym (c .enum-told2 .given .1) ∙ c .before .before .missing-of .ensures)
 
 missing-of-requires : tie.Need-missing-of-requires
-missing-of-requires c κs = search needs
+missing-of-requires c κs = tt
 
 clamp-and-fill-requires : tie.Need-clamp-and-fill-requires
 clamp-and-fill-requires c κs = search needs

@@ -2,8 +2,7 @@
 use Prim.Native.Nat.{ℕ, _/_, _%_}
 use mathlib.Core.Path.{_≡_, _∙_}
 use native.Mathlib.Omega.{arith}
-use borrow.Author.Needs.{needs}
-use lib.Dec.{eqb}
+use lib.Dec.{eqb, lit≤}
 use Rattle.inspect.specs.Presence.{given}
 use Rattle.closest_laws.specs.Loops.{firstTwo}
 use Rattle.closest_laws.specs.Closest.{optimizeLastThree}
@@ -22,52 +21,34 @@ known s k e =
     arm (x .play .presence) (x .play .counts .n200) (x .play .counts .n100) (x .play .counts .n50) (x .remain .0) (x .earned .0) (x .play .«target_numerator» .0) k e
 
 plus-requires : tie.Need-plus-requires
-plus-requires c κs = search needs
+plus-requires c κs = let f = c .before .before .before .pre .0 .few in omega (arith, f .n200, f .n100)
 
 saturating-sub-requires : tie.Need-saturating-sub-requires
-saturating-sub-requires c κs = search needs
+saturating-sub-requires c κs = tt
 
 plus-requires-2 : tie.Need-plus-requires-2
-plus-requires-2 c κs = search needs
+plus-requires-2 c κs = let f = c .before .before .before .pre .0 .few in omega (arith, f .n200, f .n50)
 
 saturating-sub-requires-2 : tie.Need-saturating-sub-requires-2
-saturating-sub-requires-2 c κs = search needs
+saturating-sub-requires-2 c κs = tt
 
 plus-requires-3 : tie.Need-plus-requires-3
-plus-requires-3 c κs = search needs
+plus-requires-3 c κs = let f = c .before .before .before .pre .0 .few in omega (arith, f .n100, f .n50)
 
 saturating-sub-requires-3 : tie.Need-saturating-sub-requires-3
-saturating-sub-requires-3 c κs = search needs
-
-times-requires : tie.Need-times-requires
-times-requires c κs = search needs
-
-plus-requires-4 : tie.Need-plus-requires-4
-plus-requires-4 c κs = search needs
+saturating-sub-requires-3 c κs = tt
 
 two-of-last-requires : tie.Need-two-of-last-requires
-two-of-last-requires c κs = search needs
-
-times-requires-2 : tie.Need-times-requires-2
-times-requires-2 c κs = search needs
-
-plus-requires-5 : tie.Need-plus-requires-5
-plus-requires-5 c κs = search needs
+two-of-last-requires c κs = let p = c .before .before .before .pre in (omega (arith, p .0 .few .n200, p .1), p .0 .aim, lit≤ tt, lit≤ tt)
 
 two-of-last-requires-2 : tie.Need-two-of-last-requires-2
-two-of-last-requires-2 c κs = search needs
-
-times-requires-3 : tie.Need-times-requires-3
-times-requires-3 c κs = search needs
-
-plus-requires-6 : tie.Need-plus-requires-6
-plus-requires-6 c κs = search needs
+two-of-last-requires-2 c κs = let p = c .before .before .before .pre in (omega (arith, p .0 .few .n100, p .1), p .0 .aim, lit≤ tt, lit≤ tt)
 
 two-of-last-requires-3 : tie.Need-two-of-last-requires-3
-two-of-last-requires-3 c κs = search needs
+two-of-last-requires-3 c κs = let p = c .before .before .before .pre in (omega (arith, p .0 .few .n50, p .1), p .0 .aim, lit≤ tt, lit≤ tt)
 
 all-three-requires : tie.Need-all-three-requires
-all-three-requires c κs = search needs
+all-three-requires c κs = let p = c .before .before .before .pre in (p .1, p .0 .aim)
 
 returns : tie.Need-returns
 unfolding optimizeLastThree
@@ -87,21 +68,15 @@ returns-4 c = rw (c .saturating-sub3 .ensures, c .before .plus3 .ensures) (known
 
 returns-5 : tie.Need-returns-5
 unfolding optimizeLastThree
-returns-5 c =
-    let two = c .before .before .two-of-last .ensures in
-    rw (two .lighter, two .heavier, c .before .before .before .plus4 .ensures, c .before .before .before .before .times .ensures) (known (c .before .before .before .before .before .before .before .before) 1 (c .before .before .before .before .before .match .keys5))
+returns-5 c = let two = c .before .before .two-of-last .ensures in rw (two .lighter, two .heavier) (known (c .before .before .before .before .before .before) 1 (c .before .before .before .match .keys5))
 
 returns-6 : tie.Need-returns-6
 unfolding optimizeLastThree
-returns-6 c =
-    let two = c .before .before .two-of-last2 .ensures in
-    rw (two .lighter, two .heavier, c .before .before .before .plus5 .ensures, c .before .before .before .before .times2 .ensures) (known (c .before .before .before .before .before .before .before .before) 2 (c .before .before .before .before .before .match .keys6))
+returns-6 c = let two = c .before .before .two-of-last2 .ensures in rw (two .lighter, two .heavier) (known (c .before .before .before .before .before .before) 2 (c .before .before .before .match .keys6))
 
 returns-7 : tie.Need-returns-7
 unfolding optimizeLastThree
-returns-7 c =
-    let two = c .before .before .two-of-last3 .ensures in
-    rw (two .lighter, two .heavier, c .before .before .before .plus6 .ensures, c .before .before .before .before .times3 .ensures) (known (c .before .before .before .before .before .before .before .before) 4 (c .before .before .before .before .before .match .keys7))
+returns-7 c = let two = c .before .before .two-of-last3 .ensures in rw (two .lighter, two .heavier) (known (c .before .before .before .before .before .before) 4 (c .before .before .before .match .keys7))
 
 returns-8 : tie.Need-returns-8
 returns-8 c =
@@ -118,14 +93,8 @@ optimize-last-three-spec =
     saturating-sub-requires-2
     plus-requires-3
     saturating-sub-requires-3
-    times-requires
-    plus-requires-4
     two-of-last-requires
-    times-requires-2
-    plus-requires-5
     two-of-last-requires-2
-    times-requires-3
-    plus-requires-6
     two-of-last-requires-3
     all-three-requires
     returns

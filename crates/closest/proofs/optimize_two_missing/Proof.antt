@@ -47,7 +47,7 @@ minus-requires : tie.Need-minus-requires
 minus-requires c κs = search needs
 
 less-requires : tie.Need-less-requires
-less-requires c κs = search needs
+less-requires c κs = tt
 
 returns : tie.Need-returns
 unfolding byMissing
@@ -59,7 +59,7 @@ minus-requires-2 : tie.Need-minus-requires-2
 minus-requires-2 c κs = ltb-false _ _ (sym (c .before .less .ensures) ∙ c .if1 .left)
 
 standard-weights-requires : tie.Need-standard-weights-requires
-standard-weights-requires c κs = search needs
+standard-weights-requires c κs = tt
 
 points-of-requires : tie.Need-points-of-requires
 points-of-requires c κs = search needs
@@ -79,7 +79,7 @@ solve-two-vars-requires c κs =
     (le-trans (f .0) (le-trans (w .top) (lit≤ tt)), f .1 .0, omega (arith, c .before .before .before .before .minus2 .ensures, w .hits), rw (sum-is (c .before)) (sum-within (p .w320) (n .n320) (n .n300) (n .n200) (n .n100) (n .n50) (w .top) h), w .aim)
 
 fill-in-requires : tie.Need-fill-in-requires
-fill-in-requires c κs = search needs
+fill-in-requires c κs = tt
 
 returns-2 : tie.Need-returns-2
 unfolding byMissing

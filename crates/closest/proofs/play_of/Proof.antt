@@ -12,13 +12,13 @@ use Rattle.closest.proofs.play_of.Statement.{statement}
 use Rattle.closest.proofs.play_of.Tie as tie
 
 perfect-weight-requires : tie.Need-perfect-weight-requires
-perfect-weight-requires c κs = search needs
+perfect-weight-requires c κs = tt
 
 misses-requires : tie.Need-misses-requires
 misses-requires c κs = search needs
 
 of-requires : tie.Need-of-requires
-of-requires c κs = search needs
+of-requires c κs = tt
 
 total-hits-requires : tie.Need-total-hits-requires
 total-hits-requires c κs = search needs
@@ -30,7 +30,7 @@ remain-requires : tie.Need-remain-requires
 remain-requires c κs = search needs
 
 unwrap-or-zero-requires : tie.Need-unwrap-or-zero-requires
-unwrap-or-zero-requires c κs = search needs
+unwrap-or-zero-requires c κs = tt
 
 returns : tie.Need-returns
 unfolding unwrapOrZero playOf

@@ -31,7 +31,7 @@ min-space-needed-requires : tie.Need-min-space-needed-requires
 min-space-needed-requires c κs = search needs
 
 less-requires : tie.Need-less-requires
-less-requires c κs = search needs
+less-requires c κs = tt
 
 returns : tie.Need-returns
 returns c =
@@ -51,7 +51,7 @@ optimize-last-three-requires : tie.Need-optimize-last-three-requires
 optimize-last-three-requires c κs = (c .before .before .before .before .before .before .before .before .pre .0, omega (arith, points (c .before .before .before .before .before .before .before .before), c .plus2 .ensures, c .before .before .times .ensures, c .before .times2 .ensures, c .before .before .before .before .before .before .minus .ensures, c .before .before .before .before .before .before .before .plus .ensures, c .before .before .before .before .before .before .before .before .pre .2, c .before .before .before .before .before .before .before .before .pre .0 .hits))
 
 of-requires : tie.Need-of-requires
-of-requires c κs = search needs
+of-requires c κs = tt
 
 accuracy-distance-requires : tie.Need-accuracy-distance-requires
 accuracy-distance-requires c κs =

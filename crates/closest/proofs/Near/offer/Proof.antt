@@ -1,7 +1,6 @@
--- `closest::Near::offer`: the pair is taken where nothing is found yet or it is nearer. Assumes nothing.
+-- `closest::Near::offer`: the counts are taken where nothing is found yet or they are nearer. Assumes nothing.
 use mathlib.Core.Path.{sym, _∙_}
 use mathlib.Core.Logic.{⊎-elim}
-use borrow.Author.Needs.{needs}
 use Rattle.closest_laws.specs.Loops.{nearer}
 use Rattle.closest_laws.proofs.Steps.{offer-took, near-fresh, near-less, near-kept}
 use Rattle.closest.specs.Code.{nearTry, nearView}
@@ -9,12 +8,12 @@ use Rattle.closest.proofs.Near.offer.Statement.{statement}
 use Rattle.closest.proofs.Near.offer.Tie as tie
 
 less-requires : tie.Need-less-requires
-less-requires c κs = search needs
+less-requires c κs = tt
 
 returns : tie.Need-returns
 returns c =
     let x = c .before .before .args in
-    offer-took nearer (nearTry (x .dist) (x .pair)) (nearView (x .self))
+    offer-took nearer (nearTry (x .dist) (x .counts)) (nearView (x .self))
     (⊎-elim
     (λ w. near-fresh (x .self .found) (x .dist .0) (x .self .dist .0) (w .taken))
     (λ w. near-less (x .self .found) (x .dist .0) (x .self .dist .0) (w .0 .left) (sym (w .1 .ensures) ∙ w .2 .taken))
@@ -23,7 +22,7 @@ returns c =
 returns-2 : tie.Need-returns-2
 returns-2 c =
     let x = c .before .before .before .before .args in
-    near-kept (x .self .found) (x .pair) (x .dist .0) (x .self .dist .0) (x .self .pair) (c .before .before .if1 .left) (sym (c .before .less .ensures) ∙ c .if2 .left)
+    near-kept (x .self .found) (x .counts) (x .dist .0) (x .self .dist .0) (x .self .best) (c .before .before .if1 .left) (sym (c .before .less .ensures) ∙ c .if2 .left)
 
 pub offer-spec : {M : Type 1} → statement M
 offer-spec = tie.close (tie.spec less-requires returns returns-2)
