@@ -178,13 +178,17 @@ fn report(s: &[u8], kind: u8, name: &[u8]) {
     io::write_all(STDOUT_FILENO, b" differ\n");
 }
 
+fn report_all(list: &[u8]) {
+    report(list, 0, b"accuracy: ");
+    report(list, 1, b"target: ");
+    report(list, 2, b"ignore_acc: ");
+    report(list, 3, b"fast: ");
+    report(list, 4, b"closest: ");
+    report(list, 5, b"nearest: ");
+}
+
 fn main() {
     let mut list = [0u8; 262144];
     let n = io::read_full(STDIN_FILENO, &mut list);
-    report(&list[..n], 0, b"accuracy: ");
-    report(&list[..n], 1, b"target: ");
-    report(&list[..n], 2, b"ignore_acc: ");
-    report(&list[..n], 3, b"fast: ");
-    report(&list[..n], 4, b"closest: ");
-    report(&list[..n], 5, b"nearest: ");
+    report_all(&list[..n]);
 }

@@ -10,7 +10,7 @@ ghost use lib.Ieee.{fin};
 ghost use lib.Ieee.Nearest.{closest};
 ghost use Rattle.rounding.specs.Round.{roundEven, product, zero64, one64};
 ghost use Rattle.rounding.specs.Distance.{ratio, distance};
-ghost use Rattle.rounding.specs.Quotient.{roundedUp};
+ghost use Rattle.rounding.specs.Quotient.{mostDividend, mostDivisor, roundedUp};
 
 // The whole number nearest to x, a half to the even one, for x from -0.0 up to 2^31. From 2^52 to 2^53 the f64s are the whole
 // numbers: the sum's own rounding, to the nearest and a half to even, is the one asked for, and its bits count on from those of 2^52.
@@ -49,7 +49,7 @@ pub fn distance_of(a: f64, b: f64) -> f64
 
 // x / y rounded up.
 pub fn div_ceil(x: u32, y: u32) -> u32
-    requires { ⌜ (x ≤ 1_000_000_000) × (0 < y) × (y ≤ 1_000) ⌝ }
+    requires { ⌜ (x ≤ mostDividend) × (0 < y) × (y ≤ mostDivisor) ⌝ }
     ensures { λ r. ⌜ (r ≡ roundedUp x y) × (r ≤ x + y) ⌝ }
 {
     (x + (y - 1)) / y
@@ -57,7 +57,7 @@ pub fn div_ceil(x: u32, y: u32) -> u32
 
 // x / y to the nearest whole number, a half to the even one.
 pub fn div_round_ties_even(x: u32, y: u32) -> u32
-    requires { ⌜ (x ≤ 1_000_000_000) × (0 < y) × (y ≤ 1_000) ⌝ }
+    requires { ⌜ (x ≤ mostDividend) × (0 < y) × (y ≤ mostDivisor) ⌝ }
     ensures { λ r. ⌜ r ≡ closest x y ⌝ }
 {
     let whole = x / y;

@@ -4,6 +4,7 @@
 use Prim.Native.Nat.{ℕ, _+_, _-_, _*_, _≤_}
 use mathlib.Core.Bool.{Bool, cond}
 use mathlib.Core.List.{List, [], _∷_}
+use Rattle.score_state.specs.Limits.{mostWeight}
 use Rattle.score_state.specs.declared.HitResults.{HitResults}
 use Rattle.score_state.specs.declared.Weights.{Weights}
 
@@ -43,8 +44,8 @@ totalHits r = hits (countsOf r) + r .misses
 
 -- weights of at most 100 each, so that points fit
 pub record Light (w : Weights) : Type 0 where
-  pub n320 : w .n320 ≤ 100
-  pub n300 : w .n300 ≤ 100
-  pub n200 : w .n200 ≤ 100
-  pub n100 : w .n100 ≤ 100
-  pub n50 : w .n50 ≤ 100
+  pub n320 : w .n320 ≤ mostWeight
+  pub n300 : w .n300 ≤ mostWeight
+  pub n200 : w .n200 ≤ mostWeight
+  pub n100 : w .n100 ≤ mostWeight
+  pub n50 : w .n50 ≤ mostWeight

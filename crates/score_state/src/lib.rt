@@ -9,10 +9,10 @@ ghost use lib.Ieee.{binary64, ofInt};
 ghost use lib.Ieee.Nearest.{closest};
 ghost use Rattle.rounding.specs.Round.{roundEven, product, zero64, one64};
 ghost use Rattle.rounding.specs.Distance.{ratio};
-ghost use Rattle.rounding.specs.Quotient.{roundedUp};
-ghost use Rattle.score_state.specs.Limits.{most32, mostHits, mostPoints};
+ghost use Rattle.rounding.specs.Quotient.{mostDividend, mostDivisor, roundedUp};
+ghost use Rattle.score_state.specs.Limits.{most32, mostWeight};
 ghost use Rattle.score_state.specs.Points.{standard, points, gap, weightsOf, countsOf, totalHits, perfectWeight, Light};
-ghost use Rattle.score_state.specs.Accuracy.{accuracyOf, answerOf, accuracyAnswer, overCap, Capped};
+ghost use Rattle.score_state.specs.Accuracy.{accuracyOf, answerOf, accuracyAnswer, cap, overCap, Capped};
 
 // A number of notes; no number of points. Code above this crate adds, subtracts and compares notes and points by the methods of
 // these two structs, so that neither can stand for the other.
@@ -154,7 +154,7 @@ impl Points {
 
     // The same rounded up.
     pub fn div_ceil(self, step: u32) -> Hits
-        requires { ⌜ (self .0 ≤ 1_000_000_000) × (0 < step) × (step ≤ 1_000) ⌝ }
+        requires { ⌜ (self .0 ≤ mostDividend) × (0 < step) × (step ≤ mostDivisor) ⌝ }
         ensures { λ r. ⌜ (r .0 ≡ roundedUp (self .0) step) × (r .0 ≤ self .0 + step) ⌝ }
     {
         Hits(rounding::div_ceil(self.0, step))
@@ -162,7 +162,7 @@ impl Points {
 
     // The same to the nearest whole number, a half to the even one.
     pub fn div_round_ties_even(self, step: u32) -> Hits
-        requires { ⌜ (self .0 ≤ 1_000_000_000) × (0 < step) × (step ≤ 1_000) ⌝ }
+        requires { ⌜ (self .0 ≤ mostDividend) × (0 < step) × (step ≤ mostDivisor) ⌝ }
         ensures { λ r. ⌜ r .0 ≡ closest (self .0) step ⌝ }
     {
         Hits(rounding::div_round_ties_even(self.0, step))
@@ -178,7 +178,7 @@ impl Points {
     // acc times them, one f64 product, to the nearest whole number, a half to even.
     pub fn rounded_product(self, acc: f64) -> Points
         requires { ⌜ T (Ieee.le zero64 acc) ⌝ ∗ ⌜ T (Ieee.le acc one64) ⌝ }
-        requires { ⌜ self .0 ≤ 1_000_000_000 ⌝ }
+        requires { ⌜ self .0 ≤ mostDividend ⌝ }
         ensures { λ r. ⌜ (r .0 ≡ roundEven (product acc (self .0))) × (r .0 ≤ self .0) ⌝ }
     {
         Points(rounding::rounded_product(acc, self.0))
@@ -253,8 +253,8 @@ pub fn total_hits(counts: HitResults) -> Hits
 
 // A count times its weight.
 fn times(weight: u32, count: u32) -> u32
-    requires { ⌜ (weight ≤ 100) × (count ≤ 1_000_000) ⌝ }
-    ensures { λ r. ⌜ (r ≡ weight * count) × (r ≤ 100_000_000) ⌝ }
+    requires { ⌜ (weight ≤ mostWeight) × (count ≤ cap) ⌝ }
+    ensures { λ r. ⌜ (r ≡ weight * count) × (r ≤ mostWeight * cap) ⌝ }
 {
     weight * count
 }

@@ -10,7 +10,7 @@ use Rattle.cursor.specs.declared.Read.the-variants.{Chart}
 use Rattle.records.specs.Records.{chartAt}
 
 read-from-requires : tie.Need-read-from-requires
-read-from-requires c κs = search needs
+read-from-requires c κs = tt
 
 enum-known-chart : tie.Need-enum-known-chart
 enum-known-chart c = search needs

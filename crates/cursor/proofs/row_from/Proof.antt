@@ -10,13 +10,13 @@ use Rattle.cursor.specs.declared.Read.the-variants.{Row}
 use Rattle.records.specs.Records.{rowAt}
 
 read-from-requires : tie.Need-read-from-requires
-read-from-requires c κs = search needs
+read-from-requires c κs = tt
 
 enum-known-row : tie.Need-enum-known-row
 enum-known-row c = search needs
 
 no-row-requires : tie.Need-no-row-requires
-no-row-requires c κs = search needs
+no-row-requires c κs = tt
 
 returns : tie.Need-returns
 returns c = told (rowOf (rowAt [] 0)) (c .before .before .before .read-from .result) _ (Row (rowAt (c .before .before .before .before .before .args .s .now) (c .before .before .before .before .before .args .at))) (c .before .row .given .1) (c .before .before .before .read-from .ensures ∙ row (c .before .before .before .before .before .args .s .now) (c .before .before .before .before .before .args .at) (omega arith))

@@ -10,7 +10,7 @@ use Rattle.cursor.specs.declared.Read.the-variants.{Word}
 use Rattle.little_endian.specs.Bytes.{u32At}
 
 read-from-requires : tie.Need-read-from-requires
-read-from-requires c κs = search needs
+read-from-requires c κs = tt
 
 enum-known-n : tie.Need-enum-known-n
 enum-known-n c = search needs

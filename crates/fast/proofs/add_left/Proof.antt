@@ -8,10 +8,10 @@ use Rattle.fast.proofs.add_left.Statement.{statement}
 use Rattle.fast.proofs.add_left.Tie as tie
 
 is-zero-requires : tie.Need-is-zero-requires
-is-zero-requires c κs = search needs
+is-zero-requires c κs = tt
 
 left-place-requires : tie.Need-left-place-requires
-left-place-requires c κs = search needs
+left-place-requires c κs = tt
 
 plus-left-requires : tie.Need-plus-left-requires
 plus-left-requires c κs = search needs

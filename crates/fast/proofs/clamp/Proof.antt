@@ -9,7 +9,7 @@ pick-requires : tie.Need-pick-requires
 pick-requires c κs = search needs
 
 least-requires : tie.Need-least-requires
-least-requires c κs = search needs
+least-requires c κs = tt
 
 returns : tie.Need-returns
 returns c =

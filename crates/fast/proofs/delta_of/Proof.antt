@@ -11,13 +11,13 @@ use Rattle.fast.proofs.delta_of.Statement.{statement}
 use Rattle.fast.proofs.delta_of.Tie as tie
 
 standard-weights-requires : tie.Need-standard-weights-requires
-standard-weights-requires c κs = search needs
+standard-weights-requires c κs = tt
 
 points-of-requires : tie.Need-points-of-requires
 points-of-requires c κs = search needs
 
 perfect-weight-requires : tie.Need-perfect-weight-requires
-perfect-weight-requires c κs = search needs
+perfect-weight-requires c κs = tt
 
 times-requires : tie.Need-times-requires
 times-requires c κs = omega (arith, mul-le-mul (c .perfect-weight .ensures .1) (c .before .before .before .pre .1 .1 .0))
@@ -29,7 +29,7 @@ times-requires-2 : tie.Need-times-requires-2
 times-requires-2 c κs = search needs
 
 saturating-sub-requires : tie.Need-saturating-sub-requires
-saturating-sub-requires c κs = search needs
+saturating-sub-requires c κs = tt
 
 returns : tie.Need-returns
 returns c =

@@ -14,10 +14,10 @@ remain-requires : tie.Need-remain-requires
 remain-requires c κs = search needs
 
 is-zero-requires : tie.Need-is-zero-requires
-is-zero-requires c κs = search needs
+is-zero-requires c κs = tt
 
 of-requires : tie.Need-of-requires
-of-requires c κs = search needs
+of-requires c κs = tt
 
 returns : tie.Need-returns
 returns c =
@@ -25,10 +25,10 @@ returns c =
     c .of .ensures ∙ zero-is (x .acc) (inspectOf (x .q)) (c .before .before .before .remain .ensures .0) (sym (c .before .before .is-zero .ensures) ∙ c .before .if1 .taken) (c .before .before .before .before .misses .ensures .0)
 
 prelim-of-requires : tie.Need-prelim-of-requires
-prelim-of-requires c κs = search needs
+prelim-of-requires c κs = tt
 
 missing-of-requires : tie.Need-missing-of-requires
-missing-of-requires c κs = search needs
+missing-of-requires c κs = tt
 
 enum-told : tie.Need-enum-told
 enum-told c = search needs
@@ -37,7 +37,7 @@ enum-told-2 : tie.Need-enum-told-2
 enum-told-2 c = search needs
 
 one-missing-requires : tie.Need-one-missing-requires
-one-missing-requires c κs = search needs
+one-missing-requires c κs = tt
 
 three-or-fewer-requires : tie.Need-three-or-fewer-requires
 unfolding remain

@@ -22,7 +22,7 @@ if-none-requires-5 : tie.Need-if-none-requires-5
 if-none-requires-5 c κs = search needs
 
 of-requires : tie.Need-of-requires
-of-requires c κs = search needs
+of-requires c κs = tt
 
 returns : tie.Need-returns
 returns c =

@@ -20,7 +20,7 @@ plus-left-at-requires-5 : tie.Need-plus-left-at-requires-5
 plus-left-at-requires-5 c κs = search needs
 
 of-requires : tie.Need-of-requires
-of-requires c κs = search needs
+of-requires c κs = tt
 
 returns : tie.Need-returns
 unfolding plusLeft

@@ -34,7 +34,7 @@ clamp-requires-5 : tie.Need-clamp-requires-5
 clamp-requires-5 c κs = search needs
 
 of-requires : tie.Need-of-requires
-of-requires c κs = search needs
+of-requires c κs = tt
 
 minus-requires-5 : tie.Need-minus-requires-5
 minus-requires-5 c κs = search needs

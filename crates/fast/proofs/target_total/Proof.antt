@@ -8,7 +8,6 @@ use Rattle.rounding.specs.Round.{product}
 use Rattle.rounding.proofs.Floats.{of-int, product-within}
 use Rattle.fast.specs.Fast.{targetTotal}
 use Rattle.fast.proofs.Difference.{difference-below, above-zero-le, not-above-rounds}
-use borrow.Author.Needs.{needs}
 use Rattle.fast.proofs.target_total.Statement.{statement}
 use Rattle.fast.proofs.target_total.Tie as tie
 
@@ -16,10 +15,10 @@ abbrev difference : Float → ℕ → ℕ → Float
 difference acc d n = sub binary64 (product acc d) (ofInt binary64 (pos n))
 
 as-f64-requires : tie.Need-as-f64-requires
-as-f64-requires c κs = search needs
+as-f64-requires c κs = tt
 
 as-f64-requires-2 : tie.Need-as-f64-requires-2
-as-f64-requires-2 c κs = search needs
+as-f64-requires-2 c κs = tt
 
 round-ties-even-requires : tie.Need-round-ties-even-requires
 unfolding ofBits

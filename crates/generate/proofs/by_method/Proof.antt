@@ -14,13 +14,13 @@ use Rattle.generate.proofs.by_method.Statement.{statement}
 use Rattle.generate.proofs.by_method.Tie as tie
 
 stop-of-requires : tie.Need-stop-of-requires
-stop-of-requires c κs = search needs
+stop-of-requires c κs = tt
 
 returns : tie.Need-returns
 returns c = halted (c .before .before .args .method) (c .before .before .args .q) (c .before .stop-of .result) (c .before .stop-of .ensures) (c .if1 .taken)
 
 ignores-acc-requires : tie.Need-ignores-acc-requires
-ignores-acc-requires c κs = search needs
+ignores-acc-requires c κs = tt
 
 generate-hitresults-requires : tie.Need-generate-hitresults-requires
 generate-hitresults-requires c κs = in-domain (c .before .before .before .before .args .q) (c .before .before .before .stop-of .result) (c .before .before .before .stop-of .ensures) (c .before .before .if1 .left)

@@ -1,11 +1,10 @@
 -- `generate::generate` meets its contract: the method is the query's own. Assumes nothing.
 use Rattle.generate_laws.specs.Generate.{generateAnswer}
-use borrow.Author.Needs.{needs}
 use Rattle.generate.proofs.generate.Statement.{statement}
 use Rattle.generate.proofs.generate.Tie as tie
 
 by-method-requires : tie.Need-by-method-requires
-by-method-requires c κs = search needs
+by-method-requires c κs = tt
 
 returns : tie.Need-returns
 unfolding generateAnswer

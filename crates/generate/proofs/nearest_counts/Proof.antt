@@ -23,13 +23,13 @@ remain-requires : tie.Need-remain-requires
 remain-requires c κs = search needs
 
 perfect-weight-requires : tie.Need-perfect-weight-requires
-perfect-weight-requires c κs = search needs
+perfect-weight-requires c κs = tt
 
 target-of-requires : tie.Need-target-of-requires
 target-of-requires c κs = (c .before .before .before .before .pre .1 .0, (c .before .before .before .before .pre .1 .1, (omega arith, omega arith)))
 
 standard-weights-requires : tie.Need-standard-weights-requires
-standard-weights-requires c κs = search needs
+standard-weights-requires c κs = tt
 
 nearest-requires : tie.Need-nearest-requires
 nearest-requires c κs =
@@ -49,7 +49,7 @@ enum-known-split : tie.Need-enum-known-split
 enum-known-split c = search needs
 
 of-requires : tie.Need-of-requires
-of-requires c κs = search needs
+of-requires c κs = tt
 
 enum-told : tie.Need-enum-told
 enum-told c = search needs

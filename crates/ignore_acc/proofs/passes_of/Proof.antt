@@ -1,27 +1,26 @@
 -- `ignore_acc::passes_of` meets its contract. Assumes nothing.
 use Rattle.ignore_acc.specs.Code.{countOf, assignedOf, fiveOf}
 use Rattle.ignore_acc.proofs.Steps.{filled-le, passes-is}
-use borrow.Author.Needs.{needs}
 use Rattle.ignore_acc.proofs.passes_of.Statement.{statement}
 use Rattle.ignore_acc.proofs.passes_of.Tie as tie
 
 assign-specified-requires : tie.Need-assign-specified-requires
-assign-specified-requires c κs = search needs
+assign-specified-requires c κs = tt
 
 assign-specified-requires-2 : tie.Need-assign-specified-requires-2
-assign-specified-requires-2 c κs = search needs
+assign-specified-requires-2 c κs = tt
 
 assign-specified-requires-3 : tie.Need-assign-specified-requires-3
-assign-specified-requires-3 c κs = search needs
+assign-specified-requires-3 c κs = tt
 
 assign-specified-requires-4 : tie.Need-assign-specified-requires-4
-assign-specified-requires-4 c κs = search needs
+assign-specified-requires-4 c κs = tt
 
 assign-specified-requires-5 : tie.Need-assign-specified-requires-5
-assign-specified-requires-5 c κs = search needs
+assign-specified-requires-5 c κs = tt
 
 second-pass-requires : tie.Need-second-pass-requires
-second-pass-requires c κs = search needs
+second-pass-requires c κs = tt
 
 add-shortfall-requires : tie.Need-add-shortfall-requires
 add-shortfall-requires c κs =

@@ -1,24 +1,23 @@
 -- `ignore_acc::second_pass` meets its contract. Assumes nothing.
 use Rattle.ignore_acc.specs.Code.{assignedOf, filledOf}
 use Rattle.ignore_acc.proofs.Steps.{second-is}
-use borrow.Author.Needs.{needs}
 use Rattle.ignore_acc.proofs.second_pass.Statement.{statement}
 use Rattle.ignore_acc.proofs.second_pass.Tie as tie
 
 unwrap-or-else-requires : tie.Need-unwrap-or-else-requires
-unwrap-or-else-requires c κs = search needs
+unwrap-or-else-requires c κs = tt
 
 unwrap-or-else-requires-2 : tie.Need-unwrap-or-else-requires-2
-unwrap-or-else-requires-2 c κs = search needs
+unwrap-or-else-requires-2 c κs = tt
 
 unwrap-or-else-requires-3 : tie.Need-unwrap-or-else-requires-3
-unwrap-or-else-requires-3 c κs = search needs
+unwrap-or-else-requires-3 c κs = tt
 
 unwrap-or-else-requires-4 : tie.Need-unwrap-or-else-requires-4
-unwrap-or-else-requires-4 c κs = search needs
+unwrap-or-else-requires-4 c κs = tt
 
 unwrap-or-else-requires-5 : tie.Need-unwrap-or-else-requires-5
-unwrap-or-else-requires-5 c κs = search needs
+unwrap-or-else-requires-5 c κs = tt
 
 returns : tie.Need-returns
 returns c =

@@ -12,7 +12,7 @@ is-given-requires : tie.Need-is-given-requires
 is-given-requires c κs = search needs
 
 over-cap-requires : tie.Need-over-cap-requires
-over-cap-requires c κs = search needs
+over-cap-requires c κs = tt
 
 returns : tie.Need-returns
 unfolding countOver
@@ -24,7 +24,7 @@ is-given-requires-2 : tie.Need-is-given-requires-2
 is-given-requires-2 c κs = search needs
 
 over-cap-requires-2 : tie.Need-over-cap-requires-2
-over-cap-requires-2 c κs = search needs
+over-cap-requires-2 c κs = tt
 
 returns-2 : tie.Need-returns-2
 unfolding countOver
@@ -38,7 +38,7 @@ is-given-requires-3 : tie.Need-is-given-requires-3
 is-given-requires-3 c κs = search needs
 
 over-cap-requires-3 : tie.Need-over-cap-requires-3
-over-cap-requires-3 c κs = search needs
+over-cap-requires-3 c κs = tt
 
 returns-3 : tie.Need-returns-3
 unfolding countOver
@@ -53,7 +53,7 @@ is-given-requires-4 : tie.Need-is-given-requires-4
 is-given-requires-4 c κs = search needs
 
 over-cap-requires-4 : tie.Need-over-cap-requires-4
-over-cap-requires-4 c κs = search needs
+over-cap-requires-4 c κs = tt
 
 returns-4 : tie.Need-returns-4
 unfolding countOver
@@ -69,7 +69,7 @@ is-given-requires-5 : tie.Need-is-given-requires-5
 is-given-requires-5 c κs = search needs
 
 over-cap-requires-5 : tie.Need-over-cap-requires-5
-over-cap-requires-5 c κs = search needs
+over-cap-requires-5 c κs = tt
 
 returns-5 : tie.Need-returns-5
 unfolding countOver
@@ -86,7 +86,7 @@ is-given-requires-6 : tie.Need-is-given-requires-6
 is-given-requires-6 c κs = search needs
 
 over-cap-requires-6 : tie.Need-over-cap-requires-6
-over-cap-requires-6 c κs = search needs
+over-cap-requires-6 c κs = tt
 
 returns-6 : tie.Need-returns-6
 unfolding countOver

@@ -15,7 +15,7 @@ is-given-requires : tie.Need-is-given-requires
 is-given-requires c κs = search needs
 
 least-requires : tie.Need-least-requires
-least-requires c κs = search needs
+least-requires c κs = tt
 
 returns : tie.Need-returns
 returns c = (misses-given (inspectOf (c .before .before .before .before .args .q)) (has (c .before .before .before .before .args .q .presence) 32) (c .before .before .before .before .args .q .misses) (c .before .before .before .total-hits .result .0) (c .least .result .0) refl (sym (c .before .before .is-given .ensures) ∙ c .before .if1 .taken) (c .before .before .before .total-hits .ensures .0) (c .least .ensures), omega arith)

@@ -6,7 +6,7 @@ use Rattle.inspect.proofs.rounded_target.Statement.{statement}
 use Rattle.inspect.proofs.rounded_target.Tie as tie
 
 stop-of-requires : tie.Need-stop-of-requires
-stop-of-requires c κs = search needs
+stop-of-requires c κs = tt
 
 returns : tie.Need-returns
 returns c = target-refused (c .before .before .args .q) (c .before .stop-of .result) (c .before .stop-of .ensures) (c .if1 .taken)
@@ -24,7 +24,7 @@ remain-requires : tie.Need-remain-requires
 remain-requires c κs = in-domain (c .before .before .before .before .before .before .before .args .q) (c .before .before .before .before .before .before .stop-of .result) (c .before .before .before .before .before .before .stop-of .ensures) (c .before .before .before .before .before .if1 .left)
 
 perfect-weight-requires : tie.Need-perfect-weight-requires
-perfect-weight-requires c κs = search needs
+perfect-weight-requires c κs = tt
 
 target-of-requires : tie.Need-target-of-requires
 target-of-requires c κs =

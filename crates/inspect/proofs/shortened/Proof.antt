@@ -1,12 +1,11 @@
 -- `inspect::shortened` meets its contract. Assumes nothing.
 use native.Mathlib.Omega.{arith}
 use Rattle.inspect.specs.Inspect.{shortened}
-use borrow.Author.Needs.{needs}
 use Rattle.inspect.proofs.shortened.Statement.{statement}
 use Rattle.inspect.proofs.shortened.Tie as tie
 
 least-requires : tie.Need-least-requires
-least-requires c κs = search needs
+least-requires c κs = tt
 
 returns : tie.Need-returns
 unfolding shortened

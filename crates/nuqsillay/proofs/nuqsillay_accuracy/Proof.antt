@@ -7,7 +7,7 @@ use Rattle.nuqsillay.proofs.nuqsillay_accuracy.Statement.{statement}
 use Rattle.nuqsillay.proofs.nuqsillay_accuracy.Tie as tie
 
 accuracy-requires : tie.Need-accuracy-requires
-accuracy-requires c κs = search needs
+accuracy-requires c κs = tt
 
 enum-known-x : tie.Need-enum-known-x
 enum-known-x c = search needs

@@ -16,10 +16,10 @@ returns c =
     handed-short 4 (targetAnswer (targetQuery (x .objects) (x .holds) (x .classic) (x .presence) (x .misses) (x .passed) (x .acc))) (x .out .now) (c .if1 .taken)
 
 target-query-requires : tie.Need-target-query-requires
-target-query-requires c κs = search needs
+target-query-requires c κs = tt
 
 rounded-target-requires : tie.Need-rounded-target-requires
-rounded-target-requires c κs = search needs
+rounded-target-requires c κs = tt
 
 enum-known-t : tie.Need-enum-known-t
 enum-known-t c = search needs

@@ -5,7 +5,7 @@ use Rattle.nuqsillay.proofs.nuqsillay_work_sheet.Statement.{statement}
 use Rattle.nuqsillay.proofs.nuqsillay_work_sheet.Tie as tie
 
 work-sheet-requires : tie.Need-work-sheet-requires
-work-sheet-requires c κs = search needs
+work-sheet-requires c κs = tt
 
 enum-told : tie.Need-enum-told
 enum-told c = search needs

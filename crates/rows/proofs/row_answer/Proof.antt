@@ -14,7 +14,7 @@ chart-in-requires : tie.Need-chart-in-requires
 chart-in-requires c κs = search needs
 
 found-answer-requires : tie.Need-found-answer-requires
-found-answer-requires c κs = search needs
+found-answer-requires c κs = tt
 
 returns : tie.Need-returns
 returns c = c .found-answer .ensures ∙ ap (foundAnswer (c .before .before .before .before .args .row)) (c .before .chart-in .ensures) ∙ row-found (c .before .before .before .before .args .row) (c .before .before .before .before .args .charts) (c .before .before .before .before .args .n) (omega arith) (omega arith)

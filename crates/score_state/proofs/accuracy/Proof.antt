@@ -2,12 +2,11 @@
 use Rattle.score_state.specs.Accuracy.{accuracyAnswer}
 use Rattle.score_state.proofs.Caps.{capped}
 use mathlib.Core.Path.{sym, _∙_}
-use borrow.Author.Needs.{needs}
 use Rattle.score_state.proofs.accuracy.Statement.{statement}
 use Rattle.score_state.proofs.accuracy.Tie as tie
 
 over-cap-requires : tie.Need-over-cap-requires
-over-cap-requires c κs = search needs
+over-cap-requires c κs = tt
 
 accuracy-of-requires : tie.Need-accuracy-of-requires
 accuracy-of-requires c κs = capped (c .before .before .args .counts) (sym (c .before .over-cap .ensures) ∙ c .if1 .left)

@@ -8,7 +8,7 @@ slice-aggregate-read-all : tie.Need-slice-aggregate-read-all
 slice-aggregate-read-all c = search needs
 
 read-all-requires : tie.Need-read-all-requires
-read-all-requires c κs = search needs
+read-all-requires c κs = tt
 
 enum-known-n : tie.Need-enum-known-n
 enum-known-n c = search needs
@@ -20,7 +20,7 @@ slice-aggregate-failed : tie.Need-slice-aggregate-failed
 slice-aggregate-failed c = search needs
 
 failed-requires : tie.Need-failed-requires
-failed-requires c κs = search needs
+failed-requires c κs = tt
 
 returns : tie.Need-returns
 returns c = search needs
@@ -32,7 +32,7 @@ slice-aggregate-print-sheet : tie.Need-slice-aggregate-print-sheet
 slice-aggregate-print-sheet c = counted _ _ _ (c .before .before .n .given .1) (c .before .before .before .before .before .read-all .ensures) .1
 
 print-sheet-requires : tie.Need-print-sheet-requires
-print-sheet-requires c κs = search needs
+print-sheet-requires c κs = tt
 
 array-share-prefix-text : tie.Need-array-share-prefix-text
 array-share-prefix-text c = search needs
@@ -47,7 +47,7 @@ slice-aggregate-failed-2 : tie.Need-slice-aggregate-failed-2
 slice-aggregate-failed-2 c = search needs
 
 failed-requires-2 : tie.Need-failed-requires-2
-failed-requires-2 c κs = search needs
+failed-requires-2 c κs = tt
 
 returns-2 : tie.Need-returns-2
 returns-2 c = search needs

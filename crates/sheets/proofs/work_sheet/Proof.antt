@@ -10,7 +10,7 @@ use Rattle.sheets.proofs.work_sheet.Statement.{statement}
 use Rattle.sheets.proofs.work_sheet.Tie as tie
 
 sheet-stop-requires : tie.Need-sheet-stop-requires
-sheet-stop-requires c κs = search needs
+sheet-stop-requires c κs = tt
 
 returns : tie.Need-returns
 returns c =

@@ -12,7 +12,7 @@ slice-aggregate-work-sheet : tie.Need-slice-aggregate-work-sheet
 slice-aggregate-work-sheet c = search needs
 
 work-sheet-requires : tie.Need-work-sheet-requires
-work-sheet-requires c κs = search needs
+work-sheet-requires c κs = tt
 
 enum-known-queries : tie.Need-enum-known-queries
 enum-known-queries c = search needs

@@ -16,7 +16,7 @@ is-given-requires : tie.Need-is-given-requires
 is-given-requires c κs = search needs
 
 least-requires : tie.Need-least-requires
-least-requires c κs = search needs
+least-requires c κs = tt
 
 minus-requires : tie.Need-minus-requires
 minus-requires c κs = search needs
@@ -25,7 +25,7 @@ steps-requires : tie.Need-steps-requires
 steps-requires c κs = search needs
 
 least-requires-2 : tie.Need-least-requires-2
-least-requires-2 c κs = search needs
+least-requires-2 c κs = tt
 
 times-requires : tie.Need-times-requires
 times-requires c κs =
@@ -33,7 +33,7 @@ times-requires c κs =
     omega (arith, mul-le-mul (c .before .before .before .before .before .before .pre .0 .1 .1) l)
 
 saturating-sub-requires : tie.Need-saturating-sub-requires
-saturating-sub-requires c κs = search needs
+saturating-sub-requires c κs = tt
 
 minus-requires-2 : tie.Need-minus-requires-2
 minus-requires-2 c κs = search needs

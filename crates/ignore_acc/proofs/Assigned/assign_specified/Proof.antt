@@ -10,7 +10,7 @@ enum-known-specified : tie.Need-enum-known-specified
 enum-known-specified c = search needs
 
 least-requires : tie.Need-least-requires
-least-requires c κs = search needs
+least-requires c κs = tt
 
 minus-requires : tie.Need-minus-requires
 minus-requires c κs = search needs
