@@ -246,7 +246,7 @@ fn solve_two_vars(w1: u32, w2: u32, remain_hits: Hits, provided_sum: Points, tar
     best_of_four(w1, w2, remain_hits, provided_sum, target, floor, ceil)
 }
 
-// None of the hits at the weight w1, floor, ceil, or all of them.
+// The four numbers of hits at w1 that are tried: none, floor, ceil and all.
 fn best_of_four(
     w1: u32,
     w2: u32,
@@ -329,8 +329,8 @@ fn min_space_needed(play: Play) -> Hits
     Hits(c.n200).plus(Hits(c.n100)).plus(Hits(c.n50))
 }
 
-// The values of a count of this weight, of so many hits and for so many points: a given one is clamped to the room, a missing one
-// runs over the first two of the Rust's values within it.
+// What n320 or n300 runs through, of this weight, for so many hits that are to earn so many points: a given count is clamped to the
+// room, a missing one takes the first two of the Rust's values within it.
 fn values(present: bool, n: Hits, room: Hits, hits: Hits, target: Points, weight: u32) -> Span
     requires { ⌜ (room .0 ≤ mostHits) × (hits .0 ≤ mostHits) × (target .0 ≤ mostPoints) × (10 < weight) × (weight ≤ mostWeight) ⌝ }
     ensures { λ r. ⌜ (range (r .lo .0) (r .hi .0) ≡ Laws.values firstTwo (given present (n .0)) (room .0) ((target .0 - 10 * hits .0) / (weight - 10)) (roundedUp (target .0) weight + 1)) × (r .hi .0 ≤ room .0) ⌝ }
