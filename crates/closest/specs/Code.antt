@@ -6,10 +6,10 @@ use mathlib.Core.List.{List, [], _∷_}
 use mathlib.Core.Option.{Option, some}
 use lib.Ieee.{Float}
 use lib.Ieee.Nearest.{closest}
-use Rattle.score_state.specs.Limits.{mostHits, mostPoints}
+use Rattle.units.specs.Limits.{mostHits, mostPoints}
 use Rattle.score_state.specs.Given.{or}
 use Rattle.score_state.specs.Accuracy.{Capped}
-use Rattle.score_state.specs.declared.Points.{Points}
+use Rattle.units.specs.declared.Points.{Points}
 use Rattle.score_state.specs.declared.HitResults.{HitResults}
 use Rattle.inspect.specs.Presence.{has, given}
 use Rattle.score_state.specs.Answer.{Answer, worked, refused}

@@ -8,7 +8,7 @@ ghost use lib.Dec.{T};
 ghost use lib.Ieee as Ieee;
 ghost use Rattle.rounding.specs.Round.{zero64, one64};
 ghost use Rattle.rounding.specs.Quotient.{roundedUp};
-ghost use Rattle.score_state.specs.Limits.{most32, mostHits, mostWeight, mostPoints};
+ghost use Rattle.units.specs.Limits.{most32, mostHits, mostWeight, mostPoints};
 ghost use Rattle.score_state.specs.Points.{countsOf};
 ghost use Rattle.score_state.specs.Given.{missing, fill};
 ghost use Rattle.score_state.specs.Accuracy.{Capped};
@@ -22,8 +22,8 @@ ghost use Rattle.closest.specs.Code.{answerOf, playView, Within, TwoOfLa
 use inspect::Missing;
 use inspect::Query;
 use score_state::HitResults;
-use score_state::Hits;
-use score_state::Points;
+use units::Hits;
+use units::Points;
 
 // What Closest answers: the six counts, or that two counts are missing and the given ones are over remain (12).
 pub enum Closest {

@@ -18,7 +18,8 @@ use Rattle.rounding.specs.Quotient.{roundedUp}
 use Rattle.quotients.specs.Steps.{floorU32, ceilU32, ceilAsU32, roundU32, quotient, orZero}
 use Rattle.quotients.proofs.Sites.{site}
 use Rattle.quotients.proofs.Abs.{abs-sub, Counted, counted-ratio, counted-zero}
-use Rattle.score_state.specs.Points.{gap, totalHits}
+use Rattle.score_state.specs.Points.{totalHits}
+use Rattle.units.specs.Gap.{gap}
 use Rattle.score_state.specs.Given.{or, missing, givenHits, givenPoints, fill}
 use Rattle.score_state.specs.Accuracy.{accuracyOf}
 use Rattle.score_state.specs.declared.HitResults.{HitResults}

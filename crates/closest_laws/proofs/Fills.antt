@@ -10,7 +10,7 @@ use borrow.Author.Tests.{ne-eqb}
 use lib.Dec.{eqb}
 use lib.ListN.{length}
 use lib.Ieee.{Float}
-use Rattle.score_state.specs.Limits.{mostHits, mostPoints}
+use Rattle.units.specs.Limits.{mostHits, mostPoints}
 use Rattle.score_state.specs.Points.{points, countsOf, perfectWeight}
 use Rattle.score_state.specs.Given.{or, missing, givenHits, givenPoints, fill}
 use Rattle.score_state.specs.declared.HitResults.{HitResults}

@@ -9,7 +9,7 @@ use native.Mathlib.Decide.{decLe}
 use native.Mathlib.Omega.{arith}
 use borrow.Author.Tests.{lt-ltb, le-ltb, ltb-true}
 use lib.Ieee.Nearest.{closest}
-use Rattle.score_state.specs.Points.{gap}
+use Rattle.units.specs.Gap.{gap}
 use Rattle.score_state.specs.Given.{or}
 use Rattle.closest_laws.specs.Loops.{Kept, from, range, firstTwo, each, offer, scan, nearer}
 use Rattle.rounding.specs.Quotient.{roundedUp}

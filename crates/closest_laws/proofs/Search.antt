@@ -7,7 +7,7 @@ use native.Mathlib.Nat.{mul-le-mul-right}
 use native.Mathlib.Omega.{arith}
 use lib.Dec.{ltb}
 use lib.Ieee.{Float, lt}
-use Rattle.score_state.specs.Limits.{mostHits}
+use Rattle.units.specs.Limits.{mostHits}
 use Rattle.score_state.specs.declared.HitResults.{HitResults}
 use Rattle.closest_laws.specs.Loops.{Kept, range, firstTwo, each, offer, scan}
 use Rattle.closest_laws.specs.Closest.{Play, Last, optimizeLastThree, space, values320, values300, resultAt, tryAt, inner, outer, start, search, cappedSearch, optimizeThreePlusMissing}

@@ -9,7 +9,8 @@ use native.Mathlib.Decide.{decLe}
 use native.Mathlib.Omega.{arith}
 use borrow.Author.Tests.{ltb-false, eq-eqb, ne-eqb}
 use lib.ListN.{length}
-use Rattle.score_state.specs.Points.{hits, points, gap, countsOf}
+use Rattle.score_state.specs.Points.{hits, points, countsOf}
+use Rattle.units.specs.Gap.{gap}
 use Rattle.score_state.specs.Given.{or, missing, givenHits, givenPoints, fill}
 use Rattle.closest_laws.specs.Loops.{Kept, each, offer, scan, nearer}
 use Rattle.rounding.specs.Quotient.{roundedUp}

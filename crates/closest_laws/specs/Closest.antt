@@ -13,7 +13,8 @@ use lib.Ieee.{Float, binary64, lt, ofBits}
 use lib.Ieee.Nearest.{closest}
 use Rattle.rounding.specs.Distance.{ratio, distance}
 use Rattle.rounding.specs.Quotient.{roundedUp}
-use Rattle.score_state.specs.Points.{perfectWeight, gap}
+use Rattle.score_state.specs.Points.{perfectWeight}
+use Rattle.units.specs.Gap.{gap}
 use Rattle.score_state.specs.Given.{or, missing, givenHits, givenPoints, fill}
 use Rattle.score_state.specs.Accuracy.{accuracyOf}
 use Rattle.score_state.specs.declared.HitResults.{HitResults}

@@ -5,7 +5,7 @@ ghost use Prim.Native.Nat.{ℕ, _+_, _≤_, _<_};
 ghost use lib.Dec.{T, eqb};
 ghost use lib.Ieee as Ieee;
 ghost use Rattle.rounding.specs.Round.{zero64, one64};
-ghost use Rattle.score_state.specs.Limits.{mostHits, mostPoints};
+ghost use Rattle.units.specs.Limits.{mostHits, mostPoints};
 ghost use Rattle.score_state.specs.Points.{perfectWeight};
 ghost use Rattle.inspect.specs.Presence.{has, given};
 ghost use Rattle.inspect.specs.Inspect as Inspect;
@@ -22,8 +22,8 @@ use inspect::N300;
 use inspect::N320;
 use inspect::Query;
 use score_state::HitResults;
-use score_state::Hits;
-use score_state::Points;
+use units::Hits;
+use units::Points;
 
 // Counts, and the hits that they leave.
 struct Partial {

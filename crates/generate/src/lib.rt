@@ -18,7 +18,7 @@ use inspect::Query;
 use nearest::Five;
 use nearest::Outcome;
 use score_state::HitResults;
-use score_state::Hits;
+use units::Hits;
 
 // The six counts with tried, or the number that refuses and nothing else.
 pub enum Generated {

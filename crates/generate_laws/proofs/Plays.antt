@@ -5,7 +5,8 @@ use Rattle.rounding.specs.Round.{roundEven}
 use Rattle.rounding.specs.Distance.{distance}
 use Rattle.rounding.specs.Quotient.{roundedUp}
 use Rattle.quotients.specs.Steps.{floor, ceil, roundTiesEven, max, abs}
-use Rattle.score_state.specs.Points.{hits, points, gap}
+use Rattle.score_state.specs.Points.{hits, points}
+use Rattle.units.specs.Gap.{gap}
 use Rattle.score_state.specs.Given.{or, missing, givenHits, givenPoints, fill}
 use Rattle.score_state.specs.Accuracy.{accuracyOf}
 use Rattle.inspect.specs.Inspect.{shortened, totalHits, cappedMisses, misses, remain}

@@ -1,7 +1,7 @@
 // ignore_acc.rs: the counts by priority alone; the accuracy plays no part.
 ghost use mathlib.Core.Path.{_≡_};
 ghost use Prim.Native.Nat.{_<_, _≤_};
-ghost use Rattle.score_state.specs.Limits.{mostHits};
+ghost use Rattle.units.specs.Limits.{mostHits};
 ghost use Rattle.score_state.specs.Points as Points;
 ghost use Rattle.inspect.specs.Presence.{has, given};
 ghost use Rattle.inspect.specs.Inspect as Inspect;
@@ -11,7 +11,7 @@ ghost use Rattle.ignore_acc.specs.IgnoreAcc.{assignSpecified, unwrapOrEl
 ghost use Rattle.ignore_acc.specs.Code.{countOf, assignedOf, filledOf, fiveOf, bestCounts, worstCounts};
 use inspect::Query;
 use score_state::HitResults;
-use score_state::Hits;
+use units::Hits;
 
 // A count that may be missing: `Option<u32>`.
 enum Count {

@@ -5,7 +5,7 @@ ghost use Prim.Native.Nat.{_≤_, _<_, _*_};
 ghost use lib.Dec.{T};
 ghost use lib.Ieee as Ieee;
 ghost use Rattle.rounding.specs.Round.{zero64, one64};
-ghost use Rattle.score_state.specs.Limits.{mostHits, mostWeight};
+ghost use Rattle.units.specs.Limits.{mostHits, mostWeight};
 ghost use Rattle.inspect.specs.Presence as Presence;
 ghost use Rattle.inspect.specs.Presence.{has, lacking, missingOf, unwrapOrZero};
 ghost use Rattle.inspect.specs.Inspect as Inspect;
@@ -14,8 +14,8 @@ ghost use Rattle.inspect.specs.Target as Target;
 ghost use Rattle.inspect.specs.Checks.{chartOver, unknownCode, overCap, countOver, accOutside, stopOf, Domain};
 ghost use Rattle.inspect.specs.Answers.{answerOf, targetAnswer};
 use score_state::HitResults;
-use score_state::Hits;
-use score_state::Points;
+use units::Hits;
+use units::Points;
 
 // The attributes of a chart.
 pub struct Chart {

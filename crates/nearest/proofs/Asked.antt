@@ -5,12 +5,12 @@ use mathlib.Core.Option.{Option}
 use mathlib.Core.Path.{_≡_}
 use native.Mathlib.Nat.{mul-le-mul-right, mul-add}
 use native.Mathlib.Omega.{arith}
-use Rattle.score_state.specs.Limits.{most32, mostWeight}
+use Rattle.units.specs.Limits.{most32, mostWeight}
 use Rattle.score_state.specs.Points.{weightsOf, Light}
 use Rattle.score_state.specs.Given.{or, missing, givenHits, givenPoints}
 use Rattle.score_state.specs.Accuracy.{Capped}
 use Rattle.score_state.specs.declared.HitResults.{HitResults}
-use Rattle.score_state.specs.declared.Hits.{Hits}
+use Rattle.units.specs.declared.Hits.{Hits}
 use Rattle.score_state.specs.declared.Weights.{Weights}
 use Rattle.inspect.specs.Presence.{has, givensOf, unwrapOrZero}
 use Rattle.nearest_laws.specs.Walk.{Falling}

@@ -10,11 +10,11 @@ use native.Mathlib.Omega.{arith}
 use types.Run.{OneOf, miss}
 use mir.Val.{hasKey}
 use denote.Enum.Declared.{tagOf}
-use Rattle.score_state.specs.Limits.{most32, mostWeight}
+use Rattle.units.specs.Limits.{most32, mostWeight}
 use Rattle.score_state.specs.Points.{weightsOf}
 use Rattle.score_state.specs.Given.{missing, fill}
 use Rattle.score_state.specs.declared.HitResults.{HitResults}
-use Rattle.score_state.specs.declared.Points.{Points}
+use Rattle.units.specs.declared.Points.{Points}
 use Rattle.score_state.specs.declared.Weights.{Weights}
 use Rattle.inspect.specs.Presence.{has, given, givensOf, lacking, missingOf}
 use Rattle.inspect.specs.declared.Missing.{Missing}

@@ -10,7 +10,7 @@ use native.Mathlib.Numerals.{add-one}
 use native.Mathlib.Omega.{arith}
 use lib.Dec.{ltb}
 use borrow.Author.Tests.{ltb-true, ltb-false}
-use Rattle.score_state.specs.Limits.{most32}
+use Rattle.units.specs.Limits.{most32}
 use Rattle.nearest_laws.specs.Walk.{Middle, Best, over, offer, settle, rows, lowest, pair, settings}
 use Rattle.nearest_laws.specs.Places.{Slot}
 use Rattle.nearest_laws.proofs.Steps.{settle-over, settle-cons, settle-mono, loop-step, loop-end, loop-count, fits-step}

@@ -1,8 +1,8 @@
 -- The code's values as those of Nearest's definition (crate nearest_laws), and what the code's functions ask.
 use Prim.Native.Nat.{ℕ, zero, suc, _+_, _-_, _*_, _<_, _≤_}
 use mathlib.Core.List.{List, [], _∷_, _++_}
-use Rattle.score_state.specs.Limits.{most32, mostWeight}
-use Rattle.score_state.specs.declared.Points.{Points}
+use Rattle.units.specs.Limits.{most32, mostWeight}
+use Rattle.units.specs.declared.Points.{Points}
 use Rattle.nearest_laws.specs.Walk.{Try, Best, Middle, settle, trial, settings}
 use Rattle.nearest_laws.specs.Places.{Slot}
 use Rattle.nearest.specs.declared.Middle.{Middle as MiddleCode}

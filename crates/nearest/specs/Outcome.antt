@@ -3,11 +3,11 @@
 use Prim.Native.Nat.{ℕ, _*_, _≤_}
 use mathlib.Core.List.{List, [], _∷_}
 use mathlib.Core.Option.{Option, none, some}
-use Rattle.score_state.specs.Limits.{most32, mostWeight}
+use Rattle.units.specs.Limits.{most32, mostWeight}
 use Rattle.score_state.specs.Points.{weightsOf}
 use Rattle.score_state.specs.Given.{or}
 use Rattle.score_state.specs.Accuracy.{cap}
-use Rattle.score_state.specs.declared.Hits.{Hits}
+use Rattle.units.specs.declared.Hits.{Hits}
 use Rattle.score_state.specs.declared.Weights.{Weights}
 use Rattle.inspect.specs.Presence.{has, given, fiveGiven}
 use Rattle.nearest_laws.specs.Nearest.{Weighting, Found}

@@ -9,7 +9,7 @@ use lib.Dec.{eqb}
 use Rattle.score_state.specs.Points.{weightsOf}
 use Rattle.score_state.specs.Given.{missing, fill}
 use Rattle.score_state.specs.declared.HitResults.{HitResults}
-use Rattle.score_state.specs.declared.Points.{Points}
+use Rattle.units.specs.declared.Points.{Points}
 use Rattle.score_state.specs.declared.Weights.{Weights}
 use Rattle.inspect.specs.Presence.{has, given, givensOf}
 use Rattle.nearest_laws.specs.Walk.{walk, lastOf}

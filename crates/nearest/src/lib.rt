@@ -3,7 +3,7 @@ ghost use mathlib.Core.Path.{_≡_};
 ghost use mathlib.Core.Bool.{false, not, _&&_, _||_};
 ghost use lib.Dec.{eqb, ltb};
 ghost use Prim.Native.Nat.{ℕ, suc, _+_, _*_, _<_, _≤_, _-_, min};
-ghost use Rattle.score_state.specs.Limits.{most32, mostWeight};
+ghost use Rattle.units.specs.Limits.{most32, mostWeight};
 ghost use Rattle.score_state.specs.Points.{weightsOf};
 ghost use Rattle.score_state.specs.Given.{missing};
 ghost use Rattle.score_state.specs.declared.HitResults as Counts;
@@ -16,9 +16,9 @@ ghost use Rattle.nearest.specs.Presence.{firstOf, foldedOf, Planned, pla
 ghost use Rattle.nearest.specs.Outcome.{fiveOf, givenFive, foundOf, outcomeOf, Ask};
 use inspect::Missing;
 use score_state::HitResults;
-use score_state::Hits;
-use score_state::Points;
 use score_state::Weights;
+use units::Hits;
+use units::Points;
 
 // Five numbers of hits, from n320 to n50. The misses are no part of Nearest.
 pub struct Five {

@@ -7,7 +7,8 @@ use mathlib.Core.Option.{Option, none, some}
 use lib.ListN.{length}
 use native.Mathlib.Nat.{le-refl}
 use native.Mathlib.Omega.{arith}
-use Rattle.score_state.specs.Points.{hits, points, gap}
+use Rattle.score_state.specs.Points.{hits, points}
+use Rattle.units.specs.Gap.{gap}
 use Rattle.score_state.specs.Given.{or, missing, givenHits, givenPoints, fill}
 use Rattle.nearest_laws.specs.Walk.{walk, candidates, settle, start, Shares, Falls}
 use Rattle.nearest_laws.specs.Split.{Keeps, IsSplit}

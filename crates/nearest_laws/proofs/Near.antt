@@ -10,7 +10,8 @@ use borrow.Author.Tests.{ltb-true, ltb-false, eqb-true, lt-ltb}
 use native.Mathlib.Nat.{mul-add, add-mul, mul-comm, mul-suc, mul-le-mul-left, lt-div-mul-add, div-mul-le-self, eq-or-lt-of-le, le-refl, le-trans}
 use native.Mathlib.Decide.{decLe}
 use native.Mathlib.Omega.{arith}
-use Rattle.score_state.specs.Points.{gap, hits, points}
+use Rattle.score_state.specs.Points.{hits, points}
+use Rattle.units.specs.Gap.{gap}
 use Rattle.nearest_laws.specs.Walk.{Middle, Try, Best, stride, start, over, better, offer, settle, rows, lowest, trial, pair, settings, lastOf, initOf, middles, middlesOf, candidates, walk, Shares, Falling}
 use Rattle.nearest_laws.proofs.Exchange.{Reduced, reduced, exchange, stride-pos}
 

@@ -9,7 +9,8 @@ use lib.Dec.{eqb, ltb}
 use lib.ListN.{length}
 use native.Mathlib.Omega.{arith}
 use borrow.Author.Tests.{ltb-true, ltb-false, eqb-true, eqb-false, not-true, not-false}
-use Rattle.score_state.specs.Points.{points, gap, standard}
+use Rattle.score_state.specs.Points.{points, standard}
+use Rattle.units.specs.Gap.{gap}
 use Rattle.score_state.specs.Given.{missing, givenHits, givenPoints}
 use Rattle.nearest_laws.specs.Walk.{walk, Falling, Falls}
 use Rattle.nearest_laws.specs.Split.{IsSplit}

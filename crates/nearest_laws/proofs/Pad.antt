@@ -5,7 +5,7 @@ use mathlib.Core.Bool.{Bool, true, false, cond}
 use mathlib.Core.List.{List, [], _∷_, _++_, map, append-assoc, append-nil}
 use lib.Dec.{ltb}
 use native.Mathlib.Nat.{zero-min, mul-zero, add-zero, sub-zero}
-use Rattle.score_state.specs.Points.{gap}
+use Rattle.units.specs.Gap.{gap}
 use Rattle.nearest_laws.specs.Walk.{Middle, Try, Best, start, over, better, offer, settle, rows, lowest, trial, pair, settings, lastOf, middlesOf, candidates, walk}
 
 -- the second list is the first with positions put in that are no middles

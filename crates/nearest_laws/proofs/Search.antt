@@ -4,7 +4,7 @@ use mathlib.Core.Path.{_≡_, refl}
 use mathlib.Core.List.{[], _∷_}
 use native.Mathlib.Nat.{mul-le-mul}
 use native.Mathlib.Omega.{arith}
-use Rattle.score_state.specs.Limits.{most32, mostWeight}
+use Rattle.units.specs.Limits.{most32, mostWeight}
 use Rattle.nearest_laws.specs.Walk.{Middle, Best, start, settle, settings, product}
 use Rattle.nearest_laws.specs.Places.{Slot}
 use Rattle.nearest_laws.proofs.Near.{settings-some}

@@ -6,7 +6,7 @@ use mathlib.Core.List.{List, [], _∷_, _++_, List·Memᴰ, List·Memᴰ·not-ni
 use native.Mathlib.Nat.{le-refl, sub-eq-zero-of-le, zero-div, min-zero, mul-add, mul-le-mul-right}
 use native.Mathlib.Numerals.{add-one}
 use native.Mathlib.Omega.{arith}
-use Rattle.score_state.specs.Points.{gap}
+use Rattle.units.specs.Gap.{gap}
 use Rattle.nearest_laws.specs.Walk.{Try, Best, over, better, offer, settle, rows, lowest}
 use Rattle.nearest_laws.proofs.Near.{offer-tried}
 

@@ -7,7 +7,8 @@ use mathlib.Core.List.{List, [], _∷_, _++_}
 use mathlib.Core.Path.{_≡_}
 use lib.Dec.{ltb, eqb}
 use lib.ListN.{length}
-use Rattle.score_state.specs.Points.{hits, gap}
+use Rattle.score_state.specs.Points.{hits}
+use Rattle.units.specs.Gap.{gap}
 
 -- ---- "q = (a − c) / gcd(a − c, b − c)"
 

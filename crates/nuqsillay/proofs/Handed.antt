@@ -7,7 +7,7 @@ use Rattle.score_state.specs.Accuracy as Score
 use Rattle.score_state.specs.declared.AccuracyAnswer.{AccuracyAnswer}
 use Rattle.score_state.specs.declared.AccuracyAnswer.the-variants.{Is, OverCap}
 use Rattle.score_state.specs.Answer.{Answer, statusOf}
-use Rattle.sheets.specs.Sheets.{WorkedSheet, sheetOf}
+use Rattle.sheets_laws.specs.Sheets.{WorkedSheet, sheetOf}
 use Rattle.sheets.specs.Worked.{workedOf}
 use Rattle.sheets.specs.declared.SheetAnswer.{SheetAnswer}
 use Rattle.sheets.specs.declared.SheetAnswer.the-variants.{Worked, Refused}

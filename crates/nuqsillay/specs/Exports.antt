@@ -7,7 +7,7 @@ use lib.Ieee.{Float}
 use Rattle.score_state.specs.Answer.{Answer, worked, refused, statusOf}
 use Rattle.inspect.specs.declared.Accuracy.the-variants.{Given}
 use Rattle.inspect.specs.declared.Query.{Query}
-use Rattle.sheets.specs.Sheets.{sheetOf}
+use Rattle.sheets_laws.specs.Sheets.{sheetOf}
 use Rattle.direct.specs.Direct.{Lent, lent}
 
 -- what stands behind a lent f64 at the end, and stood there before

@@ -1,13 +1,12 @@
 -- What check 10 leaves, and products of a weight and a count. Assumes nothing.
-use mathlib.Core.Path.{_≡_, refl, sym, _∙_}
+use mathlib.Core.Path.{_≡_, refl, _∙_}
 use mathlib.Core.Bool.{Bool, true, false, _||_, true≢false}
 use Prim.Native.Nat.{ℕ, _*_, _≤_}
 use native.Mathlib.Nat.{mul-le-mul, le-trans, le-of-eq}
 use native.Mathlib.Omega.{arith}
 use borrow.Author.Tests.{ltb-false}
-use lib.Dec.{ltb}
+use lib.Dec.{eqb, ltb}
 use Rattle.score_state.specs.declared.HitResults.{HitResults}
-use borrow.Author.Tests.{eq-eqb, ne-eqb}
 use mathlib.Core.List.{List}
 use lib.Ieee.{Float}
 use Rattle.rounding.specs.Round.{zero64}
@@ -54,13 +53,13 @@ pub whole-within : (r : HitResults) → Capped r → (w t : ℕ) → w ≤ 61 �
 whole-within r h w t l e = mul-le-mul l (le-trans (le-of-eq e) (total-within r h))
 
 -- ---- `accuracyOf` from its parts
-pub accuracy-none : (r : HitResults) (classic : Bool) (t : ℕ) → t ≡ totalHits r → t ≡ 0 → zero64 ≡ accuracyOf r classic
-unfolding accuracyOf
-accuracy-none r classic t e z = rw (eq-eqb (totalHits r) 0 (sym e ∙ z))
+module _ (r : HitResults) (classic : Bool) (t : ℕ) (e : t ≡ totalHits r) where
+  pub accuracy-none : eqb t 0 ≡ true → zero64 ≡ accuracyOf r classic
+  unfolding accuracyOf
+  accuracy-none z = rw (← e, z)
 
-pub accuracy-some
-    : (r : HitResults) (classic : Bool) (t p w : ℕ) (ws : List ℕ) (a : Float) → t ≡ totalHits r → (t ≡ 0 → ⊥)
-    → ws ≡ standard classic → p ≡ points ws (countsOf r) → w ≡ perfectWeight classic → a ≡ ratio p (w * t) → a ≡ accuracyOf r classic
-unfolding accuracyOf
-accuracy-some r classic t p w ws a e n ew ep eu ea =
-    ea ∙ rw (ep, ew, eu, e, ne-eqb (totalHits r) 0 (λ (z : totalHits r ≡ 0). n (e ∙ z)))
+  pub accuracy-some
+      : (p w d : ℕ) (ws : List ℕ) (a : Float) → eqb t 0 ≡ false → ws ≡ standard classic → p ≡ points ws (countsOf r) → w ≡ perfectWeight classic → d ≡ w * t
+      → a ≡ ratio p d → a ≡ accuracyOf r classic
+  unfolding accuracyOf
+  accuracy-some p w d ws a z ew ep eu ed ea = ea ∙ rw (← e, z, ed, ep, ew, eu)

@@ -1,4 +1,3 @@
-pub mod Limits
 pub mod Points
 pub mod Given
 pub mod Answer

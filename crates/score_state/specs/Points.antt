@@ -1,10 +1,10 @@
 -- Document 01, score_state.rs: "Weights: w = 60 if classic, else 61, for n320; then 60, 40, 20, 10; a miss 0. Points = sum of
--- count times weight", and Target: "Counts of any method lie as far from it as the size of points − T".
+-- count times weight".
 -- Counts and weights are lists, from n320 to n50, so that what is said of them holds for any weights.
-use Prim.Native.Nat.{ℕ, _+_, _-_, _*_, _≤_}
+use Prim.Native.Nat.{ℕ, _+_, _*_, _≤_}
 use mathlib.Core.Bool.{Bool, cond}
 use mathlib.Core.List.{List, [], _∷_}
-use Rattle.score_state.specs.Limits.{mostWeight}
+use Rattle.units.specs.Limits.{mostWeight}
 use Rattle.score_state.specs.declared.HitResults.{HitResults}
 use Rattle.score_state.specs.declared.Weights.{Weights}
 
@@ -26,10 +26,6 @@ unfoldable pub points : List ℕ → List ℕ → ℕ
 points [] xs = 0
 points (w ∷ ws) [] = 0
 points (w ∷ ws) (x ∷ xs) = w * x + points ws xs
-
--- how far x lies from y
-unfoldable pub gap : ℕ → ℕ → ℕ
-gap x y = (x - y) + (y - x)
 
 -- the weights and the five counts that are no misses, of the code's structs
 abbrev pub weightsOf : Weights → List ℕ

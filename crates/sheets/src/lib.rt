@@ -2,9 +2,8 @@
 ghost use mathlib.Core.Path.{_≡_};
 ghost use Prim.Native.Nat.{_+_, _*_, _≤_};
 ghost use lib.ListN.{length, take};
-ghost use Rattle.sheets.specs.Sheets.{sheetStop, rowsWritten, sheetOf};
-ghost use Rattle.sheets.specs.Worked.{workedOf};
-ghost use Rattle.sheets.specs.Demand3.{Demanded};
+ghost use Rattle.sheets_laws.specs.Sheets.{sheetStop, rowsWritten, sheetOf};
+ghost use Rattle.sheets.specs.Worked.{workedOf, Demanded};
 use inspect::Chart;
 
 // How many queries were worked, or the number of the check that stops the sheet.

@@ -10,8 +10,8 @@ use Rattle.little_endian.specs.Bytes.{u32At}
 use Rattle.score_state.specs.Answer.{Answer, statusOf}
 use Rattle.answers.specs.Answers.{value}
 use Rattle.text.specs.Text.{decimalText}
-use Rattle.sheets.specs.Sheets.{joined, sheetStop, queryCount, answerAt, sheetOf}
-use Rattle.sheets.proofs.Laws.{refused-answer, accepted-answer, row-status, row-value}
+use Rattle.sheets_laws.specs.Sheets.{joined, sheetStop, queryCount, answerAt, sheetOf}
+use Rattle.sheets_laws.proofs.Laws.{refused-answer, accepted-answer, row-status, row-value}
 use Rattle.table.specs.Table.{headerText, fieldText, fieldsText, rowText, tableText, refusedText, answerText, room, printedOf}
 
 -- the k-th field of an answer: its status, then its values

@@ -12,7 +12,7 @@ use Rattle.io.proofs.Counting.{counts}
 use Rattle.little_endian.specs.Bytes.{put}
 use Rattle.text.specs.Text.{Appended}
 use Rattle.text.proofs.Appended.{followed}
-use Rattle.sheets.specs.Sheets.{joined, sheetOf}
+use Rattle.sheets_laws.specs.Sheets.{joined, sheetOf}
 use Rattle.sheets.specs.Worked.{workedOf}
 use Rattle.sheets.specs.declared.SheetAnswer.{SheetAnswer}
 use Rattle.table.specs.Table.{sheetText, room, printedOf}

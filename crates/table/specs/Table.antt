@@ -6,7 +6,7 @@ use lib.ListN.{replicate}
 use Rattle.little_endian.specs.Bytes.{u32At}
 use Rattle.score_state.specs.Answer.{Answer, worked, refused}
 use Rattle.text.specs.Text.{decimalText}
-use Rattle.sheets.specs.Sheets.{joined, WorkedSheet, sheetOf}
+use Rattle.sheets_laws.specs.Sheets.{joined, WorkedSheet, sheetOf}
 
 -- "query status n320 n300 n200 n100 n50 misses tried", a line of 50 bytes
 unfoldable pub headerText : List ℕ

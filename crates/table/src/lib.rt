@@ -4,7 +4,7 @@ ghost use Prim.Native.Nat.{_+_, _*_, _≤_, _<_};
 ghost use lib.ListN.{length, take, drop};
 ghost use Rattle.io.specs.Counts.{Counts};
 ghost use Rattle.text.specs.Text.{Appended};
-ghost use Rattle.sheets.specs.Sheets.{joined};
+ghost use Rattle.sheets_laws.specs.Sheets.{joined};
 ghost use Rattle.table.specs.Table.{fieldText, fieldsText, rowText, tableText, refusedText, printedOf};
 use sheets::SheetAnswer;
 

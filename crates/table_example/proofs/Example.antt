@@ -3,7 +3,8 @@
 use mathlib.Core.Path.{_≡_, refl}
 use lib.Ieee.{lt, le, mul, sub, div, neg, ofInt, ofBits}
 use Rattle.rounding.specs.Round.{roundEven}
-use Rattle.score_state.specs.Points.{hits, points, gap}
+use Rattle.score_state.specs.Points.{hits, points}
+use Rattle.units.specs.Gap.{gap}
 use Rattle.score_state.specs.Given.{or, missing, givenHits, givenPoints, fill}
 use Rattle.inspect.specs.Inspect.{shortened, totalHits, cappedMisses, misses, remain}
 use Rattle.inspect.specs.Target.{target}
@@ -17,7 +18,7 @@ use Rattle.records.specs.Records.{chartAt, rowAt}
 use Rattle.charts.specs.Charts.{chartsAt}
 use Rattle.rows.specs.Rows.{leftOver, fieldsLeft, unknownRow, rowStop, queryOf, foundAnswer, rowAnswer}
 use Rattle.answers.specs.Answers.{fieldBytes, answerBytes}
-use Rattle.sheets.specs.Sheets.{sheetStop, chartsOf, rowOf, rowsWritten, sheetOf}
+use Rattle.sheets_laws.specs.Sheets.{sheetStop, chartsOf, rowOf, rowsWritten, sheetOf}
 use Rattle.text.specs.Text.{decimalUpTo, decimalText}
 use Rattle.table.specs.Table.{headerText, fieldText, fieldsText, rowText, tableText, answerText, room, printedOf}
 use Rattle.table_example.specs.Example.{sheet, shown}

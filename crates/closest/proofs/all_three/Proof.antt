@@ -4,8 +4,8 @@ use mathlib.Core.Path.{_≡_, refl}
 use mathlib.Core.List.{List, [], _∷_}
 use mathlib.Core.Option.{Option}
 use native.Mathlib.Omega.{arith}
-use Rattle.score_state.specs.declared.Hits.{Hits}
-use Rattle.score_state.specs.declared.Points.{Points}
+use Rattle.units.specs.declared.Hits.{Hits}
+use Rattle.units.specs.declared.Points.{Points}
 use Rattle.closest_laws.specs.Loops.{Kept, range, each, scan, nearer}
 use Rattle.closest_laws.specs.Closest.{Last, lastAt}
 use Rattle.closest_laws.proofs.Steps.{stays, leaves, loop-turn, loop-done, all-is}

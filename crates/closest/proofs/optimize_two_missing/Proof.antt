@@ -8,7 +8,7 @@ use native.Mathlib.Omega.{arith}
 use borrow.Author.Tests.{ltb-false}
 use borrow.Author.Needs.{needs}
 use lib.Dec.{ltb, lit≤}
-use Rattle.score_state.specs.Limits.{mostHits}
+use Rattle.units.specs.Limits.{mostHits}
 use Rattle.score_state.specs.Points.{hits, points, countsOf}
 use Rattle.score_state.specs.Given.{givenHits, givenPoints}
 use Rattle.score_state.specs.declared.HitResults.{HitResults}

@@ -4,7 +4,7 @@ use mathlib.Core.Logic.{⊎-elim}
 use borrow.Author.Tests.{not-true, not-false}
 use lib.Dec.{lit≤}
 use Rattle.score_state.specs.Given.{or}
-use Rattle.score_state.specs.declared.Hits.{Hits}
+use Rattle.units.specs.declared.Hits.{Hits}
 use Rattle.inspect.specs.Presence.{has, given}
 use Rattle.closest_laws.specs.Closest as Laws
 use Rattle.closest_laws.proofs.Steps.{or-given, or-missing}

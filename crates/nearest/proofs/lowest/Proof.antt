@@ -4,7 +4,7 @@ use mathlib.Core.Path.{sym, _∙_}
 use native.Mathlib.Omega.{arith}
 use borrow.Author.Needs.{needs}
 use borrow.Author.Tests.{ltb-true}
-use Rattle.score_state.specs.Limits.{most32}
+use Rattle.units.specs.Limits.{most32}
 use Rattle.nearest_laws.specs.Walk.{lowest}
 use Rattle.nearest_laws.proofs.Steps.{fits-base, lowest-below}
 use Rattle.nearest.proofs.lowest.Statement.{statement}

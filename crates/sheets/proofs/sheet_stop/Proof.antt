@@ -1,7 +1,7 @@
 -- `sheets::sheet_stop` meets its contract. Assumes nothing.
 use native.Mathlib.Omega.{arith}
 use borrow.Author.Needs.{needs}
-use Rattle.sheets.proofs.Stops.{ends-in-count, charts-over, ends-in-charts, ends-in-second, queries-over, ends-in-queries, bytes-follow, no-room, no-stop}
+use Rattle.sheets_laws.proofs.Stops.{ends-in-count, charts-over, ends-in-charts, ends-in-second, queries-over, ends-in-queries, bytes-follow, no-room, no-stop}
 use Rattle.sheets.proofs.sheet_stop.Statement.{statement}
 use Rattle.sheets.proofs.sheet_stop.Tie as tie
 

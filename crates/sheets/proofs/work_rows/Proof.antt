@@ -3,10 +3,10 @@ use Prim.Native.Nat.{_-_, _≤_}
 use mathlib.Core.Path.{_≡_, refl}
 use lib.ListN.{length, take}
 use native.Mathlib.Omega.{arith}
-use Rattle.sheets.proofs.Joined.{written-none, written-step}
+use Rattle.sheets_laws.proofs.Joined.{written-none, written-step}
 use Rattle.sheets.proofs.work_rows.Statement.{statement}
 use Rattle.sheets.proofs.work_rows.Tie as tie
-use Rattle.sheets.specs.Sheets.{rowsWritten}
+use Rattle.sheets_laws.specs.Sheets.{rowsWritten}
 
 abbrev Inv-loop : tie.InvT-loop
 Inv-loop sheet base charts count n out₀ i₀ out i = (i ≤ n) × (length out ≡ length out₀) × (out ≡ rowsWritten sheet (take count charts) base i out₀)

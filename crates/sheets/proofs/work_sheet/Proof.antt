@@ -1,11 +1,11 @@
 -- `sheets::work_sheet` meets its contract; demand 3 is a law of its equation. Assumes nothing.
 use Rattle.sheets.specs.declared.SheetAnswer.the-variants.{Worked, Refused}
-use Rattle.sheets.proofs.Demand3.{demanded}
+use Rattle.sheets.proofs.Laws.{demanded}
 use mathlib.Core.Path.{_≡_, sym, _∙_}
 use lib.ListN.{length, take}
 use native.Mathlib.Omega.{arith}
 use borrow.Author.Needs.{needs}
-use Rattle.sheets.proofs.Accepted.{accepted, laid, laid-out, sheet-stopped, sheet-from}
+use Rattle.sheets_laws.proofs.Accepted.{accepted, laid, laid-out, sheet-stopped, sheet-from}
 use Rattle.sheets.proofs.work_sheet.Statement.{statement}
 use Rattle.sheets.proofs.work_sheet.Tie as tie
 

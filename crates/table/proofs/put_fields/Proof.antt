@@ -5,7 +5,7 @@ use native.Mathlib.Omega.{arith}
 use lib.ListN.{length}
 use Rattle.text.specs.Text.{Appended}
 use Rattle.text.proofs.Appended.{nothing}
-use Rattle.sheets.specs.Sheets.{joined}
+use Rattle.sheets_laws.specs.Sheets.{joined}
 use Rattle.table.specs.Table.{fieldText, fieldsText}
 use Rattle.table.proofs.Printed.{next-part}
 use Rattle.table.proofs.put_fields.Statement.{statement}

@@ -5,7 +5,7 @@ use mathlib.Core.List.{List}
 use mathlib.Core.Option.{Option}
 use native.Mathlib.Nat.{mul-le-mul}
 use native.Mathlib.Omega.{arith}
-use Rattle.score_state.specs.Limits.{mostHits, mostPoints}
+use Rattle.units.specs.Limits.{mostHits, mostPoints}
 use Rattle.closest_laws.specs.Loops.{Kept, offer, nearer}
 use Rattle.closest_laws.specs.Closest.{splitAt}
 use Rattle.closest_laws.proofs.Steps.{offer-by}

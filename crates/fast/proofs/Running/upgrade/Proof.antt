@@ -2,7 +2,7 @@
 use native.Mathlib.Omega.{arith}
 use native.Mathlib.Nat.{mul-le-mul}
 use Prim.Native.Nat.{_≤_}
-use Rattle.score_state.specs.Limits.{mostHits}
+use Rattle.units.specs.Limits.{mostHits}
 use Rattle.score_state.specs.Given.{or}
 use Rattle.fast.specs.Fast.{ifNone, upgrade}
 use borrow.Author.Needs.{needs}

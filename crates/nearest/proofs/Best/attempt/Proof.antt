@@ -2,7 +2,7 @@
 use Prim.Native.Nat.{_+_, _-_, _*_, _≤_}
 use native.Mathlib.Omega.{arith}
 use borrow.Author.Needs.{needs}
-use Rattle.score_state.specs.Limits.{most32}
+use Rattle.units.specs.Limits.{most32}
 use Rattle.nearest_laws.specs.Walk.{trial}
 use Rattle.nearest_laws.proofs.Steps.{fits-top}
 use Rattle.nearest.proofs.Best.attempt.Statement.{statement}

@@ -1,9 +1,9 @@
--- `score_state::Points::gap` meets its contract. Assumes nothing.
+-- `units::Points::gap` meets its contract. Assumes nothing.
 use native.Mathlib.Omega.{arith}
-use Rattle.score_state.specs.Points.{gap}
+use Rattle.units.specs.Gap.{gap}
 use borrow.Author.Needs.{needs}
-use Rattle.score_state.proofs.Points.gap.Statement.{statement}
-use Rattle.score_state.proofs.Points.gap.Tie as tie
+use Rattle.units.proofs.Points.gap.Statement.{statement}
+use Rattle.units.proofs.Points.gap.Tie as tie
 
 sub-t5 : tie.Need-sub-t5
 sub-t5 c = search needs

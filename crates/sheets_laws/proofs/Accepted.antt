@@ -12,7 +12,7 @@ use Rattle.little_endian.specs.Bytes.{u32At}
 use Rattle.score_state.specs.Answer.{worked}
 use Rattle.inspect.specs.declared.Chart.{Chart}
 use Rattle.charts.specs.Charts.{chartsAt}
-use Rattle.sheets.specs.Sheets.{chartCount, queriesAt, queryCount, rowsAt, sheetEnd, sheetStop, chartsOf, rowsWritten, stopped, sheetOf}
+use Rattle.sheets_laws.specs.Sheets.{chartCount, queriesAt, queryCount, rowsAt, sheetEnd, sheetStop, chartsOf, rowsWritten, stopped, sheetOf}
 
 -- one check in front of others: where the whole is 0, the check does not hold, and the others are 0
 passes : (b : Bool) (n rest : ℕ) → 0 < n → cond b n rest ≡ 0 → (b ≡ false) × (rest ≡ 0)

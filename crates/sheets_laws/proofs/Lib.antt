@@ -1,0 +1,5 @@
+pub mod Accepted
+pub mod Joined
+pub mod Laws
+pub mod Stops
+pub mod Demand3
