@@ -1,27 +1,21 @@
 -- The code's structs and enums as the values of closest_laws' definitions, and what the functions ask of them. Document 01,
 -- Language forms: "For every answer that is an enum, a definition gives this paper's number and values for each case of the enum."
-use Prim.Native.Nat.{ℕ, _+_, _-_, _*_, _≤_, min}
+use Prim.Native.Nat.{ℕ, _+_, _≤_}
 use mathlib.Core.Path.{_≡_}
-use mathlib.Core.List.{List, [], _∷_}
-use mathlib.Core.Option.{Option, some}
+use mathlib.Core.List.{List}
 use lib.Ieee.{Float}
-use lib.Ieee.Nearest.{closest}
 use Rattle.units.specs.Limits.{mostHits, mostPoints}
 use Rattle.score_state.specs.Given.{or}
 use Rattle.score_state.specs.Accuracy.{Capped}
-use Rattle.units.specs.declared.Points.{Points}
 use Rattle.score_state.specs.declared.HitResults.{HitResults}
 use Rattle.inspect.specs.Presence.{has, given}
 use Rattle.score_state.specs.Answer.{Answer, worked, refused}
 use Rattle.closest_laws.specs.Loops.{Kept}
-use Rattle.closest_laws.specs.Closest.{Play, Last, six}
+use Rattle.closest_laws.specs.Closest.{Play, six}
 use Rattle.closest.specs.declared.Closest.{Closest}
 use Rattle.closest.specs.declared.Closest.the-variants.{Counts, Overfull}
 use Rattle.closest.specs.declared.Play.{Play as PlayS}
-use Rattle.closest.specs.declared.Three.{Three}
-use Rattle.closest.specs.declared.Near.{Near}
 use Rattle.closest.specs.declared.Best.{Best}
-use Rattle.closest.specs.declared.Pair.{Pair}
 
 -- each case of the answer
 abbrev pub answerOf : Closest → Answer (List ℕ)
@@ -54,32 +48,7 @@ pub record Within (p : PlayS) : Type 0 where
   pub zero100 : or (given (has (p .presence) 8) (p .counts .n100)) 0 ≡ p .counts .n100
   pub zero50 : or (given (has (p .presence) 16) (p .counts .n50)) 0 ≡ p .counts .n50
 
--- one of the last three is given, n of it: x of the others are the heavier
-pub record TwoOfLast (hits n base target light step x y : ℕ) : Type 0 where
-  pub heavier : x ≡ min (hits - n) (closest (target - (base + light * (hits - n))) step)
-  pub lighter : y ≡ hits - n - x
-
--- ---- the running bests
-
-abbrev pub pairView : Pair → List ℕ
-pairView p = p .0 .0 ∷ p .1 .0 ∷ []
-
--- three counts as n200, n100 and n50, or the first two of them
-abbrev pub lastView : Three → Last
-lastView t = record { n200 = t .0 .0; n100 = t .1 .0; n50 = t .2 .0 }
-
-abbrev pub twoView : Three → List ℕ
-twoView t = t .0 .0 ∷ t .1 .0 ∷ []
-
--- the best so far, as it is or by what is read of its counts
-abbrev pub nearBy : {A : Type 0} → (Three → A) → Near → Kept (Option ℕ) A
-nearBy f b = record { dist = given (b .found) (b .dist .0); result = f (b .best) }
-
-abbrev pub nearView : Near → Kept (Option ℕ) Three
-nearView b = record { dist = given (b .found) (b .dist .0); result = b .best }
-
-abbrev pub nearTry : Points → Three → Kept (Option ℕ) Three
-nearTry d t = record { dist = some (d .0); result = t }
+-- ---- the running best
 
 abbrev pub bestView : Best → Kept Float HitResults
 bestView b = record { dist = b .dist; result = b .result }

@@ -23,10 +23,11 @@ use Rattle.nearest_laws.specs.Walk.{Best, start, over, better, offer, settle, t
 use Rattle.nearest_laws.proofs.Near.{last-lt}
 use Rattle.nearest_laws.proofs.Places.{slot-good, none-placed, one-placed, five-placed}
 use Rattle.nearest_laws.proofs.Search.{three-fresh}
-use Rattle.nearest.specs.Code.{view, fresh, middleOf, unset, eachN300, candidatesOf, Walkable}
+use Rattle.walk.specs.Code.{view, fresh, middleOf, unset, eachN300}
+use Rattle.nearest.specs.Candidates.{candidatesOf, Walkable}
 use Rattle.nearest.specs.Presence.{firstOf, Planned, placesOf}
-use Rattle.nearest.specs.declared.Best.{Best as BestCode}
-use Rattle.nearest.specs.declared.Plan.{Plan}
+use Rattle.walk.specs.declared.Best.{Best as BestCode}
+use Rattle.walk.specs.declared.Plan.{Plan}
 use Rattle.nearest.proofs.Known.{missing-length}
 
 -- ---- The arms of a match on how many are missing.

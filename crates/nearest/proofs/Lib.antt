@@ -1,4 +1,3 @@
-pub mod Level
 pub mod Known
 pub mod Chosen
 pub mod Asked

@@ -1,3 +1,3 @@
-pub mod Code
+pub mod Candidates
 pub mod Presence
 pub mod Outcome

@@ -15,9 +15,9 @@ use Rattle.inspect.specs.Presence.{has, given, givensOf}
 use Rattle.nearest_laws.specs.Walk.{walk, lastOf}
 use Rattle.nearest_laws.specs.Nearest.{Found}
 use Rattle.nearest_laws.specs.Places.{slotOf, places}
-use Rattle.nearest.specs.Code.{middleOf}
-use Rattle.nearest.specs.declared.Plan.{Plan}
-use Rattle.nearest.specs.declared.Spread.{Spread}
+use Rattle.walk.specs.Code.{middleOf}
+use Rattle.walk.specs.declared.Plan.{Plan}
+use Rattle.walk.specs.declared.Spread.{Spread}
 
 -- the first of a list, d where there is none
 unfoldable pub firstOf : ℕ → List ℕ → ℕ

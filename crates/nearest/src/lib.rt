@@ -11,14 +11,20 @@ ghost use Rattle.inspect.specs.Presence.{has, given, givensOf, lacking};
 ghost use Rattle.nearest_laws.specs.Walk as Walk;
 ghost use Rattle.nearest_laws.specs.Nearest as Nearest;
 ghost use Rattle.nearest_laws.specs.Places.{slotOf, placeOf};
-ghost use Rattle.nearest.specs.Code.{view, fresh, tryOf, trialOf, setOf, middleOf, bothOf, eachN100, eachN200, eachN300, candidatesOf, PointsFit, Ready, Walkable};
+ghost use Rattle.walk.specs.Code.{view, fresh, middleOf};
 ghost use Rattle.nearest.specs.Presence.{firstOf, foldedOf, Planned, placesOf, walkedOf};
+ghost use Rattle.nearest.specs.Candidates.{candidatesOf, Walkable};
 ghost use Rattle.nearest.specs.Outcome.{fiveOf, givenFive, foundOf, outcomeOf, Ask};
 use inspect::Missing;
 use score_state::HitResults;
 use score_state::Weights;
 use units::Hits;
 use units::Points;
+use walk::Best;
+use walk::Middle;
+use walk::Plan;
+use walk::Setting;
+use walk::Spread;
 
 // Five numbers of hits, from n320 to n50. The misses are no part of Nearest.
 pub struct Five {
@@ -39,238 +45,6 @@ pub struct Split {
 pub enum Outcome {
     Found(Split),
     NoSplit,
-}
-
-// A middle: its weight and its q. A place that is no middle has weight 0 and q 1, so that it is walked once, with count 0.
-pub struct Middle {
-    pub weight: u32,
-    pub q: u32,
-}
-
-// The heaviest and the lightest missing weight, what stands at the three places between n320 and n50, and the target.
-pub struct Plan {
-    pub a: u32,
-    pub c: u32,
-    pub n300: Middle,
-    pub n200: Middle,
-    pub n100: Middle,
-    pub target: Points,
-}
-
-// The counts of a candidate: at a, at the middles, at c.
-pub struct Spread {
-    pub top: Hits,
-    pub n300: Hits,
-    pub n200: Hits,
-    pub n100: Hits,
-    pub rest: Hits,
-}
-
-// A setting of the middles: the hits left, the points so far with those of the given counts, and the middles' counts.
-pub struct Setting {
-    pub left: Hits,
-    pub points: Points,
-    pub n300: Hits,
-    pub n200: Hits,
-    pub n100: Hits,
-}
-
-// The best so far. Nothing is found while tried is 0.
-pub struct Best {
-    pub tried: u32,
-    pub dist: Points,
-    pub spread: Spread,
-}
-
-// lo: the most hits at a that stay at or below the target, 0 where none does.
-fn lowest(plan: Plan, at: Setting) -> Hits
-    requires { ⌜ (plan .c < plan .a) × PointsFit plan at ⌝ }
-    ensures { λ r. ⌜ r .0 ≡ Walk.lowest (plan .a) (plan .c) (plan .target .0) (at .left .0) (at .points .0) ⌝ }
-{
-    let left = at.left;
-    let base = at.points.plus(left.times(plan.c));
-    if plan.target.less(base) {
-        return Hits(0);
-    }
-    let steps = plan.target.saturating_sub(base).steps(plan.a - plan.c);
-    steps.count.least(left)
-}
-
-impl Middle {
-    // How many counts a middle takes: from 0 to min(q − 1, hits left).
-    fn turns(self, left: Hits) -> Hits
-        requires { ⌜ 0 < self .q ⌝ }
-        ensures { λ r. ⌜ r .0 ≡ suc (min (self .q - 1) (left .0)) ⌝ }
-    {
-        Hits(self.q - 1).least(left).plus(Hits(1))
-    }
-}
-
-impl Setting {
-    // What k hits at a middle leave; its count is put in its place by the caller.
-    fn set(self, middle: Middle, k: Hits) -> Setting
-        requires { ⌜ (k .0 ≤ self .left .0) × (self .points .0 + middle .weight * k .0 ≤ most32) ⌝ }
-        ensures { λ r. ⌜ r ≡ setOf self middle (k .0) ⌝ }
-    {
-        let n300 = self.n300;
-        let n200 = self.n200;
-        let n100 = self.n100;
-        Setting {
-            left: self.left.minus(k),
-            points: self.points.plus(k.times(middle.weight)),
-            n300: n300,
-            n200: n200,
-            n100: n100,
-        }
-    }
-}
-
-impl Best {
-    // A walk that has tried nothing.
-    fn fresh() -> Best
-        ensures { λ r. ⌜ view r ≡ fresh ⌝ }
-    {
-        let none = Hits(0);
-        Best {
-            tried: 0,
-            dist: Points(0),
-            spread: Spread {
-                top: none,
-                n300: none,
-                n200: none,
-                n100: none,
-                rest: none,
-            },
-        }
-    }
-
-    // A distance of 0 ends the walk.
-    fn over(self) -> bool
-        ensures { λ r. ⌜ r ≡ Walk.over (view self) ⌝ }
-    {
-        0 < self.tried && self.dist.is_zero()
-    }
-
-    // A candidate is better than none, and where it is nearer.
-    fn better(self, dist: Points) -> bool
-        ensures { λ r. ⌜ r ≡ Walk.better (view self) (dist .0) ⌝ }
-    {
-        self.tried == 0 || dist.less(self.dist)
-    }
-
-    // A better candidate takes the place of the best.
-    fn offer(mut self, spread: Spread, points: Points, target: Points) -> Best
-        requires { ⌜ self .tried < most32 ⌝ }
-        ensures { λ r. ⌜ view r ≡ Walk.offer (target .0) (tryOf spread points) (view self) ⌝ }
-    {
-        let dist = points.gap(target);
-        let better = self.better(dist);
-        self.tried += 1;
-        if better {
-            self.dist = dist;
-            self.spread = spread;
-        }
-        self
-    }
-
-    // The candidate with `top` hits at a and the rest at c.
-    fn attempt(self, plan: Plan, at: Setting, top: Hits) -> Best
-        requires { ⌜ (plan .c ≤ plan .a) × PointsFit plan at × (top .0 ≤ at .left .0) × (self .tried < most32) ⌝ }
-        ensures { λ r. ⌜ view r ≡ Walk.offer (plan .target .0) (trialOf plan at (top .0)) (view self) ⌝ }
-    {
-        let n300 = at.n300;
-        let n200 = at.n200;
-        let n100 = at.n100;
-        let rest = at.left.minus(top);
-        let all = at.points.plus(top.times(plan.a)).plus(rest.times(plan.c));
-        self.offer(
-            Spread {
-                top: top,
-                n300: n300,
-                n200: n200,
-                n100: n100,
-                rest: rest,
-            },
-            all,
-            plan.target,
-        )
-    }
-
-    // Both candidates of a setting: lo, then lo + 1.
-    fn both(self, plan: Plan, at: Setting) -> Best
-        requires { ⌜ PointsFit plan at × Ready plan (bothOf plan at) self × (Walk.over (view self) ≡ false) ⌝ }
-        ensures { λ r. ⌜ view r ≡ Walk.settle (plan .target .0) (bothOf plan at) (view self) ⌝ }
-    {
-        let lo = lowest(plan, at);
-        let next = self.attempt(plan, at, lo);
-        if next.over() {
-            return next;
-        }
-        if lo.less(at.left) {
-            return next.attempt(plan, at, lo.plus(Hits(1)));
-        }
-        next
-    }
-
-    // The counts of the place of n100, from 0 up.
-    fn each_n100(self, plan: Plan, at: Setting) -> Best
-        requires { ⌜ PointsFit plan at × Ready plan (eachN100 plan at) self ⌝ }
-        ensures { λ r. ⌜ view r ≡ Walk.settle (plan .target .0) (eachN100 plan at) (view self) ⌝ }
-    {
-        let turns = plan.n100.turns(at.left);
-        let mut best = self;
-        let mut k = Hits(0);
-        while k.less(turns) {
-            if best.over() {
-                return best;
-            }
-            let mut here = at.set(plan.n100, k);
-            here.n100 = k;
-            best = best.both(plan, here);
-            k = k.plus(Hits(1));
-        }
-        best
-    }
-
-    // The counts of the place of n200.
-    fn each_n200(self, plan: Plan, at: Setting) -> Best
-        requires { ⌜ PointsFit plan at × Ready plan (eachN200 plan at) self ⌝ }
-        ensures { λ r. ⌜ view r ≡ Walk.settle (plan .target .0) (eachN200 plan at) (view self) ⌝ }
-    {
-        let turns = plan.n200.turns(at.left);
-        let mut best = self;
-        let mut k = Hits(0);
-        while k.less(turns) {
-            if best.over() {
-                return best;
-            }
-            let mut here = at.set(plan.n200, k);
-            here.n200 = k;
-            best = best.each_n100(plan, here);
-            k = k.plus(Hits(1));
-        }
-        best
-    }
-
-    // The counts of the place of n300, outermost.
-    fn each_n300(self, plan: Plan, at: Setting) -> Best
-        requires { ⌜ PointsFit plan at × Ready plan (eachN300 plan at) self ⌝ }
-        ensures { λ r. ⌜ view r ≡ Walk.settle (plan .target .0) (eachN300 plan at) (view self) ⌝ }
-    {
-        let turns = plan.n300.turns(at.left);
-        let mut best = self;
-        let mut k = Hits(0);
-        while k.less(turns) {
-            if best.over() {
-                return best;
-            }
-            let mut here = at.set(plan.n300, k);
-            here.n300 = k;
-            best = best.each_n200(plan, here);
-            k = k.plus(Hits(1));
-        }
-        best
-    }
 }
 
 // Euclid's greatest common divisor.
@@ -392,45 +166,43 @@ fn best_of(presence: u8, plan: Plan, remain_hits: Hits, points: Points) -> Best
     }
 }
 
-impl Spread {
-    // The count at a place: the given one, that of a, that of c, or the middle's.
-    fn place_of(
-        self,
-        plan: Plan,
-        presence: u8,
-        place: u8,
-        weight: u32,
-        count: u32,
-        middle: Hits,
-    ) -> Hits
-        requires { ⌜ 0 < place ⌝ }
-        ensures { λ r. ⌜ r .0 ≡ placeOf (plan .a) (plan .c) (self .top .0) (self .rest .0) weight (given (has presence place) count) (middle .0) ⌝ }
-    {
-        if inspect::is_given(presence, place) {
-            return Hits(count);
-        }
-        if weight == plan.a {
-            return self.top;
-        }
-        if weight == plan.c {
-            return self.rest;
-        }
-        middle
+// The count at a place: the given one, that of a, that of c, or the middle's.
+fn place_of(
+    spread: Spread,
+    plan: Plan,
+    presence: u8,
+    place: u8,
+    weight: u32,
+    count: u32,
+    middle: Hits,
+) -> Hits
+    requires { ⌜ 0 < place ⌝ }
+    ensures { λ r. ⌜ r .0 ≡ placeOf (plan .a) (plan .c) (spread .top .0) (spread .rest .0) weight (given (has presence place) count) (middle .0) ⌝ }
+{
+    if inspect::is_given(presence, place) {
+        return Hits(count);
     }
+    if weight == plan.a {
+        return spread.top;
+    }
+    if weight == plan.c {
+        return spread.rest;
+    }
+    middle
+}
 
-    // The counts at their places, the given ones among them.
-    fn placed(self, weights: Weights, presence: u8, known: HitResults, plan: Plan) -> Five
-        ensures { λ r. ⌜ fiveOf r ≡ placesOf weights presence known plan self ⌝ }
-    {
-        let p = presence;
-        let none = Hits(0);
-        Five {
-            n320: self.place_of(plan, p, inspect::N320, weights.n320, known.n320, none),
-            n300: self.place_of(plan, p, inspect::N300, weights.n300, known.n300, self.n300),
-            n200: self.place_of(plan, p, inspect::N200, weights.n200, known.n200, self.n200),
-            n100: self.place_of(plan, p, inspect::N100, weights.n100, known.n100, self.n100),
-            n50: self.place_of(plan, p, inspect::N50, weights.n50, known.n50, none),
-        }
+// The counts of a candidate at their places, the given ones among them.
+fn placed(x: Spread, weights: Weights, presence: u8, known: HitResults, plan: Plan) -> Five
+    ensures { λ r. ⌜ fiveOf r ≡ placesOf weights presence known plan x ⌝ }
+{
+    let p = presence;
+    let none = Hits(0);
+    Five {
+        n320: place_of(x, plan, p, inspect::N320, weights.n320, known.n320, none),
+        n300: place_of(x, plan, p, inspect::N300, weights.n300, known.n300, x.n300),
+        n200: place_of(x, plan, p, inspect::N200, weights.n200, known.n200, x.n200),
+        n100: place_of(x, plan, p, inspect::N100, weights.n100, known.n100, x.n100),
+        n50: place_of(x, plan, p, inspect::N50, weights.n50, known.n50, none),
     }
 }
 
@@ -449,7 +221,7 @@ fn found(
     let plan = plan_of(weights, presence, target);
     let best = best_of(presence, plan, remain_hits, points);
     Split {
-        counts: best.spread.placed(weights, presence, known, plan),
+        counts: placed(best.spread, weights, presence, known, plan),
         tried: best.tried,
     }
 }

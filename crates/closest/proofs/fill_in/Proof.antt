@@ -11,20 +11,20 @@ use Rattle.inspect.specs.Presence.{has, given}
 use Rattle.closest.proofs.fill_in.Statement.{statement}
 use Rattle.closest.proofs.fill_in.Tie as tie
 
-next-requires : tie.Need-next-requires
-next-requires c κs = search needs
+next-of-requires : tie.Need-next-of-requires
+next-of-requires c κs = search needs
 
-next-requires-2 : tie.Need-next-requires-2
-next-requires-2 c κs = search needs
+next-of-requires-2 : tie.Need-next-of-requires-2
+next-of-requires-2 c κs = search needs
 
-next-requires-3 : tie.Need-next-requires-3
-next-requires-3 c κs = search needs
+next-of-requires-3 : tie.Need-next-of-requires-3
+next-of-requires-3 c κs = search needs
 
-next-requires-4 : tie.Need-next-requires-4
-next-requires-4 c κs = search needs
+next-of-requires-4 : tie.Need-next-of-requires-4
+next-of-requires-4 c κs = search needs
 
-next-requires-5 : tie.Need-next-requires-5
-next-requires-5 c κs = search needs
+next-of-requires-5 : tie.Need-next-of-requires-5
+next-of-requires-5 c κs = search needs
 
 of-requires : tie.Need-of-requires
 of-requires c κs = tt
@@ -37,7 +37,7 @@ returns c =
     let g100 : List (Option ℕ) = given (has (x .presence) 8) (x .counts .n100) ∷ g50 in
     let g200 : List (Option ℕ) = given (has (x .presence) 4) (x .counts .n200) ∷ g100 in
     let g300 : List (Option ℕ) = given (has (x .presence) 2) (x .counts .n300) ∷ g200 in (
-      rw (← c .before .before .before .before .before .next .ensures g300, ← c .before .before .before .before .next2 .ensures g200, ← c .before .before .before .next3 .ensures g100, ← c .before .before .next4 .ensures g50, ← c .before .next5 .ensures []) (ap countsOf (c .of .ensures)),
+      rw (← c .before .before .before .before .before .next-of .ensures g300, ← c .before .before .before .before .next-of2 .ensures g200, ← c .before .before .before .next-of3 .ensures g100, ← c .before .before .next-of4 .ensures g50, ← c .before .next-of5 .ensures []) (ap countsOf (c .of .ensures)),
       ap (λ (r : HitResults). r .misses) (c .of .ensures),
     )
 
@@ -45,10 +45,10 @@ pub fill-in-spec : {M : Type 1} → statement M
 fill-in-spec =
     tie.close
     (tie.spec
-    next-requires
-    next-requires-2
-    next-requires-3
-    next-requires-4
-    next-requires-5
+    next-of-requires
+    next-of-requires-2
+    next-of-requires-3
+    next-of-requires-4
+    next-of-requires-5
     of-requires
     returns)

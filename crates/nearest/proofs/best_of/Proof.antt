@@ -7,7 +7,7 @@ use Rattle.inspect.specs.Presence.{lacking}
 use Rattle.inspect.proofs.Lacking.{is-nothing, is-one}
 use Rattle.nearest_laws.specs.Walk.{Best, over, settle}
 use Rattle.nearest_laws.proofs.Search.{three-count}
-use Rattle.nearest.specs.Code.{view, middleOf}
+use Rattle.walk.specs.Code.{view, middleOf}
 use Rattle.nearest.proofs.Chosen.{two-missing, candidates-two}
 use Rattle.nearest.proofs.best_of.Statement.{statement}
 use Rattle.nearest.proofs.best_of.Tie as tie

@@ -11,7 +11,8 @@ use Rattle.closest_laws.specs.Closest.{space}
 use Rattle.closest_laws.proofs.LastThree.{sized}
 use Rattle.closest_laws.proofs.Bits.{lacks-one}
 use Rattle.closest_laws.proofs.Search.{last-few, inner-skip, inner-take}
-use Rattle.closest.specs.Code.{playView, bestView, lastView}
+use Rattle.closest_points.specs.Code.{lastView}
+use Rattle.closest.specs.Code.{playView, bestView}
 use Rattle.closest.proofs.Best.attempt.Statement.{statement}
 use Rattle.closest.proofs.Best.attempt.Tie as tie
 
