@@ -1,6 +1,6 @@
-// The parts of closest.rs that look for a number of points, in whole numbers: two counts of the hits that are left (`solve_two_vars`),
-// the last three (`optimize_last_three`), and the values that n320 and n300 run through. Each loop runs over its first two values
-// only: the others never change the answer, as crate `closest_laws` proves.
+// The parts of closest.rs that look for a number of points, in whole numbers: for two missing counts (`solve_two_vars`), for the last
+// three (`two_of_last`, `all_three`), and the values that n320 and n300 run through. Each loop runs over its first two values only:
+// the others never change the answer, as crate `closest_laws` proves.
 ghost use mathlib.Core.Path.{_≡_};
 ghost use mathlib.Core.List.{[], _∷_};
 ghost use mathlib.Core.Option.{none};
