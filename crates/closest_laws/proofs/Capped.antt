@@ -13,7 +13,6 @@ use lib.Ieee.{Float, lt}
 use Rattle.rounding.specs.Round.{zero64}
 use Rattle.rounding.specs.Distance.{ratio, distance}
 use Rattle.score_state.specs.Points.{perfectWeight, standard, hits, points, countsOf, totalHits}
-use Rattle.score_state.specs.Given.{or}
 use Rattle.score_state.specs.Accuracy.{accuracyOf}
 use Rattle.score_state.specs.declared.HitResults.{HitResults}
 use Rattle.closest_laws.specs.Loops.{Kept, range, firstTwo, each, scan}

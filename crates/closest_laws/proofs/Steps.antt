@@ -1,5 +1,5 @@
 -- The steps of the code, each over plain numbers: an offer, a loop, the ends of a loop, a rounding. Assumes nothing.
-use Prim.Native.Nat.{ℕ, zero, suc, _+_, _-_, _*_, _/_, _<_, _≤_, min}
+use Prim.Native.Nat.{ℕ, zero, suc, _+_, _-_, _<_, _≤_, min}
 use mathlib.Core.Path.{_≡_, refl, sym, ap, _∙_}
 use mathlib.Core.Bool.{Bool, true, false, not, cond, true≢false, false≢true}
 use mathlib.Core.Option.{Option, none, some}
@@ -11,7 +11,6 @@ use lib.Dec.{ltb}
 use Rattle.score_state.specs.Given.{or}
 use Rattle.inspect.specs.Presence.{given}
 use Rattle.closest_laws.specs.Loops.{Kept, from, range, firstTwo, each, offer, scan, nearer}
-use Rattle.rounding.specs.Quotient.{roundedUp}
 use Rattle.closest_laws.specs.Closest.{Last, lastAt, values200, optimizeLastThree, values}
 use Rattle.closest_laws.proofs.Scan.{scan-append}
 

@@ -6,7 +6,6 @@ use Prim.Native.Nat.{ℕ, _+_, _≤_, _<_}
 use native.Mathlib.Nat.{zero-add}
 use native.Mathlib.Omega.{arith}
 use borrow.Author.Tests.{lt-ltb, le-ltb, ne-eqb}
-use lib.Dec.{ltb, eqb}
 use lib.ListN.{length, drop, take}
 use lib.Seq.{sets, sets-eq}
 use Rattle.score_state.specs.Answer.{Answer, refused, worked, unless, statusOf, valuesOf}

@@ -5,7 +5,6 @@ use mathlib.Core.Bool.{Bool}
 use mathlib.Core.Option.{none, some}
 use native.Mathlib.Omega.{arith}
 use borrow.Author.Tests.{eq-eqb, ne-eqb}
-use lib.Dec.{eqb}
 use lib.Ieee.{Float}
 use mathlib.Core.List.{List, [], _∷_, _++_}
 use Rattle.score_state.specs.Points.{standard}

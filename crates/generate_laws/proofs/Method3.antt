@@ -22,7 +22,7 @@ use Rattle.inspect.specs.declared.Query.{Query}
 use Rattle.inspect.proofs.Checked.{domain, remain-and-misses, total-within}
 use Rattle.closest_laws.specs.Closest.{weights, provided, six, byMissing, playOf, optimizeTwoMissing, optimizeThreePlusMissing, clampAndFill, closestAt}
 use Rattle.nearest_laws.specs.Split.{IsSplit}
-use Rattle.nearest_laws.specs.Nearest.{Found, found, nearest, stops, standard-weighting}
+use Rattle.nearest_laws.specs.Nearest.{Found, nearest, stops, standard-weighting}
 use Rattle.nearest_laws.proofs.Nearest.{nearest-split, nearest-near, nearest-stops, answered}
 use Rattle.nearest_laws.proofs.Tried.{tried-standard}
 use Rattle.generate_laws.specs.Generate.{untried, closestOf, foundOf, nearestOf, byMethod, answerBy, generateAnswer}

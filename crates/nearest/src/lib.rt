@@ -2,7 +2,7 @@
 ghost use mathlib.Core.Path.{_≡_};
 ghost use mathlib.Core.Bool.{false, not, _&&_, _||_};
 ghost use lib.Dec.{eqb, ltb};
-ghost use Prim.Native.Nat.{ℕ, suc, _+_, _*_, _<_, _≤_, _-_, min};
+ghost use Prim.Native.Nat.{ℕ, suc, _+_, _*_, _<_, _≤_, _-_};
 ghost use Rattle.units.specs.Limits.{most32, mostWeight};
 ghost use Rattle.score_state.specs.Points.{weightsOf};
 ghost use Rattle.score_state.specs.Given.{missing};

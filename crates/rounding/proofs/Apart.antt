@@ -5,7 +5,6 @@ use native.Mathlib.Nat.{le-of-mul-le-mul-right, mul-le-mul-right, le-of-lt, le-o
 use native.Mathlib.Omega.{arith}
 use mathlib.Core.Bool.{Bool, true, false, cond, true≢false}
 use borrow.Author.Tests.{lt-ltb, le-ltb, ltb-true}
-use lib.IntN.{pos}
 use lib.Dec.{T, ltb, lit<, lit≤}
 use lib.Pow.{pow-pos}
 use lib.Ieee.{Float, nan, inf, fin, binary64, low, up, down, round, neg, sum, sub, lt, le}

@@ -1,6 +1,6 @@
 -- Two facts of `distance` and of `ratio`. Assumes nothing.
 use mathlib.Core.Path.{_≡_, refl, sym, ap, _∙_, subst}
-use Prim.Native.Nat.{ℕ, zero, _-_, _*_, _^_, _≤_, _<_, zero-le}
+use Prim.Native.Nat.{ℕ, _-_, _*_, _^_, _≤_, _<_, zero-le}
 use native.Mathlib.Nat.{le-mul-of-pos-right, ne-of-gt, mul-assoc, mul-comm, mul-left-comm, le-refl, le-of-lt, le-of-eq, le-trans, lt-of-lt-of-le, mul-pos, mul-one, zero-mul, sub-self}
 use mathlib.Core.Bool.{Bool, true, false, not, cond, true≢false}
 use borrow.Author.Tests.{le-ltb, ne-eqb}

@@ -1,7 +1,7 @@
 // f64 operations of the Rust that Rattle lacks, written out: `round_ties_even`, the rounded product, one division of whole
 // numbers, and the distance of two accuracies. For the crates above; the tests of acc's range stand in `inspect`.
 ghost use mathlib.Core.Path.{_≡_};
-ghost use mathlib.Core.Bool.{true, false};
+ghost use mathlib.Core.Bool.{false};
 ghost use Prim.Native.Nat.{_+_, _≤_, _<_, _^_};
 ghost use lib.Dec.{T};
 ghost use lib.IntN.{pos};

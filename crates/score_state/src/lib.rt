@@ -1,6 +1,5 @@
 // score_state.rs: the six judgement counts, their points and their accuracy.
 ghost use mathlib.Core.Path.{_≡_};
-ghost use mathlib.Core.List.{[], _∷_};
 ghost use Prim.Native.Nat.{_*_, _≤_};
 ghost use Rattle.units.specs.Limits.{mostWeight};
 ghost use Rattle.score_state.specs.Points.{standard, points, weightsOf, countsOf, totalHits, perfectWeight, Light};

@@ -4,7 +4,7 @@ use mathlib.Core.Path.{_∙_}
 use native.Mathlib.Nat.{mul-le-mul}
 use native.Mathlib.Omega.{arith}
 use lib.Dec.{lit≤}
-use Rattle.units.specs.Limits.{mostHits, mostWeight, mostPoints}
+use Rattle.units.specs.Limits.{mostHits, mostWeight}
 use Rattle.closest_laws.specs.Closest.{values300}
 use Rattle.closest_laws.proofs.Fills.{minus-two}
 use Rattle.closest.proofs.n300_values.Statement.{statement}

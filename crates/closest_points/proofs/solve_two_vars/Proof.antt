@@ -3,7 +3,7 @@ use Prim.Native.Nat.{_*_, _≤_}
 use mathlib.Core.Path.{sym, _∙_}
 use native.Mathlib.Nat.{mul-le-mul, le-trans}
 use native.Mathlib.Omega.{arith}
-use Rattle.units.specs.Limits.{mostWeight, mostPoints}
+use Rattle.units.specs.Limits.{mostPoints}
 use Rattle.closest_laws.proofs.TwoMissing.{solved-alike}
 use Rattle.closest_laws.proofs.Fills.{solved-by-four}
 use Rattle.closest_points.proofs.solve_two_vars.Statement.{statement}

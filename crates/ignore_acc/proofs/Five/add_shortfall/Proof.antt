@@ -1,5 +1,4 @@
 -- `ignore_acc::Five::add_shortfall` meets its contract. Assumes nothing.
-use mathlib.Core.Path.{refl}
 use Rattle.ignore_acc.specs.IgnoreAcc.{addShortfall}
 use borrow.Author.Needs.{needs}
 use Rattle.ignore_acc.proofs.Five.add_shortfall.Statement.{statement}
