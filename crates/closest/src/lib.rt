@@ -23,6 +23,7 @@ ghost use Rattle.closest.specs.Code.{answerOf, playView, Within, bestVie
 use closest_points::Pair;
 use closest_points::Span;
 use closest_points::Three;
+use closest_points::two_of_last;
 use inspect::Missing;
 use inspect::Query;
 use score_state::HitResults;
@@ -354,39 +355,15 @@ fn optimize_last_three(play: Play, remain: Hits, earned: Points) -> Three
         0b101 => Three(n2, remain.saturating_sub(n2.plus(n5)), n5),
         0b110 => Three(remain.saturating_sub(n1.plus(n5)), n1, n5),
         0b001 => {
-            let Pair(n100, n50) = closest_points::two_of_last(
-                remain,
-                n2,
-                40,
-                earned,
-                target,
-                10,
-                10,
-            );
+            let Pair(n100, n50) = two_of_last(remain, n2, 40, earned, target, 10, 10);
             Three(n2, n100, n50)
         }
         0b010 => {
-            let Pair(n200, n50) = closest_points::two_of_last(
-                remain,
-                n1,
-                20,
-                earned,
-                target,
-                10,
-                30,
-            );
+            let Pair(n200, n50) = two_of_last(remain, n1, 20, earned, target, 10, 30);
             Three(n200, n1, n50)
         }
         0b100 => {
-            let Pair(n200, n100) = closest_points::two_of_last(
-                remain,
-                n5,
-                10,
-                earned,
-                target,
-                20,
-                20,
-            );
+            let Pair(n200, n100) = two_of_last(remain, n5, 10, earned, target, 20, 20);
             Three(n200, n100, n5)
         }
         _ => closest_points::all_three(remain, earned, target),
