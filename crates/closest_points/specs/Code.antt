@@ -1,4 +1,6 @@
--- The code's structs as the values of closest_laws' definitions, and what `two_of_last` answers.
+-- closest.rs, `optimize_last_three` (lines 470 to 553): where one of the last three counts is given, the heavier of the others is a
+-- rounded quotient, at most the hits that are left, and the lighter is the rest. And the code's structs as the values of
+-- closest_laws' definitions.
 use Prim.Native.Nat.{ℕ, _+_, _-_, _*_, min}
 use mathlib.Core.Path.{_≡_}
 use mathlib.Core.List.{List, [], _∷_}

@@ -1,5 +1,5 @@
--- Document 01, Nearest: the candidates where no judgement is missing, where one is, and of the walk where more are; and what the code
--- asks to try them.
+-- Document 01, Nearest, steps 3 and 4: "With one missing judgement the single candidate is R", "With all five given and right, tried
+-- is 0", and otherwise the walk's; and what the code asks to try them.
 use Prim.Native.Nat.{ℕ, zero, suc, _<_, _≤_}
 use mathlib.Core.List.{List, [], _∷_}
 use Rattle.units.specs.Limits.{mostWeight}

@@ -1,4 +1,5 @@
--- The walk's structs as the values of Nearest's definition (crate nearest_laws), and what its functions ask.
+-- Document 01, Nearest, steps 2 to 4, whose definition is nearest_laws/specs/Walk.antt: the code's structs as its values, and what the
+-- functions of the walk ask.
 use Prim.Native.Nat.{ℕ, _+_, _-_, _*_, _<_, _≤_}
 use mathlib.Core.List.{List, [], _∷_, _++_}
 use Rattle.units.specs.Limits.{most32}

@@ -1,4 +1,4 @@
-// Nearest's walk (document 01, steps 2 and 3): both candidates of every setting of the middles, and the best of them.
+// Nearest's walk (document 01, steps 2 to 4): both candidates of every setting of the middles, and the first nearest of them.
 ghost use mathlib.Core.Path.{_≡_};
 ghost use mathlib.Core.Bool.{false};
 ghost use Prim.Native.Nat.{suc, _+_, _*_, _<_, _≤_, _-_, min};
