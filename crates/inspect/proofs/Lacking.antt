@@ -50,7 +50,7 @@ is-three-plus (suc (suc zero)) e = absurd (omega (arith, ap code e))
 is-three-plus (suc (suc (suc n))) e = omega arith
 
 -- only five bits count
-bit : (p k : ℕ) → p / k % 2 ≡ p % 32 / k % 2 → has p k ≡ has (p % 32) k
+pub bit : (p k : ℕ) → p / k % 2 ≡ p % 32 / k % 2 → has p k ≡ has (p % 32) k
 bit p k e = ap (λ (n : ℕ). eqb n 1) e
 
 pub five-bits : (p : ℕ) → lacking (p % 32) ≡ lacking p

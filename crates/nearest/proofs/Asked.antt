@@ -15,7 +15,7 @@ use Rattle.score_state.specs.declared.Weights.{Weights}
 use Rattle.inspect.specs.Presence.{has, givensOf, unwrapOrZero}
 use Rattle.nearest_laws.specs.Walk.{Falling}
 use Rattle.nearest_laws.proofs.Nearest.{weighting-falls}
-use Rattle.nearest.specs.Presence.{foldedOf}
+use Rattle.plan.specs.Planned.{foldedOf}
 use Rattle.nearest.specs.Outcome.{Ask}
 use Rattle.nearest.specs.declared.Five.{Five}
 use Rattle.nearest.proofs.Known.{unwrap-or, folded-is}

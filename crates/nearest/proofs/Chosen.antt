@@ -1,51 +1,31 @@
 -- How many judgements are missing chooses the candidates, and these are the walk's: of no missing weight, of one, and of more.
 use Prim.Native.Nat.{ℕ, zero, suc, _+_, _*_, _<_, _≤_}
-use mathlib.Core.Bool.{not}
 use mathlib.Core.List.{List, [], _∷_, head-eq-of-cons-eq}
-use mathlib.Core.Path.{_≡_, refl, sym, ap, _∙_, subst}
-use lib.Dec.{T}
+use mathlib.Core.Path.{_≡_, refl, sym, ap, _∙_}
 use lib.ListN.{length}
 use native.Mathlib.Nat.{mul-le-mul-right}
 use native.Mathlib.Omega.{arith}
-use types.Run.{OneOf, miss}
-use mir.Val.{hasKey}
-use denote.Enum.Declared.{tagOf}
 use Rattle.units.specs.Limits.{most32, mostWeight}
 use Rattle.score_state.specs.Points.{weightsOf}
 use Rattle.score_state.specs.Given.{missing, fill}
 use Rattle.score_state.specs.declared.HitResults.{HitResults}
 use Rattle.units.specs.declared.Points.{Points}
 use Rattle.score_state.specs.declared.Weights.{Weights}
-use Rattle.inspect.specs.Presence.{has, given, givensOf, lacking, missingOf}
-use Rattle.inspect.specs.declared.Missing.{Missing}
-use Rattle.inspect.proofs.Missing.{the-type}
+use Rattle.inspect.specs.Presence.{has, given, givensOf, lacking}
 use Rattle.nearest_laws.specs.Walk.{Best, start, over, better, offer, settle, trial, lastOf, candidates, walk, Falling}
 use Rattle.nearest_laws.proofs.Near.{last-lt}
 use Rattle.nearest_laws.proofs.Places.{slot-good, none-placed, one-placed, five-placed}
 use Rattle.nearest_laws.proofs.Search.{three-fresh}
 use Rattle.walk.specs.Code.{view, fresh, middleOf, unset, eachN300}
 use Rattle.nearest.specs.Candidates.{candidatesOf, Walkable}
-use Rattle.nearest.specs.Presence.{firstOf, Planned, placesOf}
+use Rattle.stride_rows.specs.Strides.{firstOf}
+use Rattle.plan.specs.Planned.{Planned}
+use Rattle.plan.proofs.Missing.{missing-length}
+use Rattle.nearest.specs.Walked.{placesOf}
 use Rattle.walk.specs.declared.Best.{Best as BestCode}
 use Rattle.walk.specs.declared.Plan.{Plan}
-use Rattle.nearest.proofs.Known.{missing-length}
 
--- ---- The arms of a match on how many are missing.
-
-no-other
-    : (n : ℕ) (m : Missing) (ks : List ℕ) → m ≡ missingOf n → T (not (hasKey ks (tagOf the-type (missingOf n))))
-    → OneOf ks (tagOf the-type m) → ⊥
-no-other n m ks e t o = miss ks (tagOf the-type (missingOf n)) t (subst (λ (x : Missing). OneOf ks (tagOf the-type x)) e o)
-
--- the cases but `Nothing`, and the last two
-pub some-missing : (n : ℕ) (m : Missing) → m ≡ missingOf n → OneOf (1 ∷ 2 ∷ 3 ∷ []) (tagOf the-type m) → 1 ≤ n
-some-missing zero m e o = absurd (no-other 0 m (1 ∷ 2 ∷ 3 ∷ []) e tt o)
-some-missing (suc n) m e o = omega arith
-
-pub two-missing : (n : ℕ) (m : Missing) → m ≡ missingOf n → OneOf (2 ∷ 3 ∷ []) (tagOf the-type m) → 2 ≤ n
-two-missing zero m e o = absurd (no-other 0 m (2 ∷ 3 ∷ []) e tt o)
-two-missing (suc zero) m e o = absurd (no-other 1 m (2 ∷ 3 ∷ []) e tt o)
-two-missing (suc (suc n)) m e o = omega arith
+-- ---- The candidates of two missing judgements or more.
 
 pub candidates-two : (n : ℕ) (p : Plan) (R g : ℕ) → 2 ≤ n → candidatesOf n p R g ≡ eachN300 p (unset R g)
 candidates-two zero p R g h = absurd (omega arith)
@@ -75,10 +55,10 @@ module _ {w : Weights} {p : ℕ} {target : Points} {plan : Plan} (pl : Planned w
   pub walkable : Falling (suc mostWeight) (missing (weightsOf w) (givensOf p k)) → g + mostWeight * R ≤ most32 → Walkable (lacking p) plan R g
   walkable f l =
       let us = missing (weightsOf w) (givensOf p k) in
-      let light : plan .a ≤ mostWeight = omega (arith, pl .a k, first-le us f) in
+      let light : plan .a ≤ mostWeight = omega (arith, pl .ends .heaviest k, first-le us f) in
       record {
-        order = omega (arith, pl .a k, pl .c k, last-le (suc mostWeight) us f);
-        apart = λ h. omega (arith, pl .a k, pl .c k, last-less (suc mostWeight) us f (omega (arith, missing-length w p k)));
+        order = omega (arith, pl .ends .heaviest k, pl .ends .lightest k, last-le (suc mostWeight) us f);
+        apart = λ h. omega (arith, pl .ends .heaviest k, pl .ends .lightest k, last-less (suc mostWeight) us f (omega (arith, missing-length w p k)));
         slots =
             record {
               n300 = rw (pl .n300 0) (slot-good (plan .a) (plan .c) (w .n300) (given (has p 2) 0));
@@ -98,8 +78,8 @@ module _ {w : Weights} {p : ℕ} {target : Points} {plan : Plan} (pl : Planned w
         × (fill (givensOf p k) (walk (a ∷ (d ∷ bs)) (plan .target .0) R g .counts) ≡ placesOf w p k plan (b .spread))
     unfolding firstOf lastOf
     two a d bs e f o =
-        let first : plan .a ≡ a = pl .a k ∙ ap (firstOf 0) e in
-        let last : plan .c ≡ lastOf d bs = pl .c k ∙ ap (lastOf 0) e in
+        let first : plan .a ≡ a = pl .ends .heaviest k ∙ ap (firstOf 0) e in
+        let last : plan .c ≡ lastOf d bs = pl .ends .lightest k ∙ ap (lastOf 0) e in
         rw (first, last)
         (five-placed (w .n320) (w .n300) (w .n200) (w .n100) (w .n50) (given (has p 1) (k .n320)) (given (has p 2) (k .n300))
         (given (has p 4) (k .n200)) (given (has p 8) (k .n100)) (given (has p 16) (k .n50)) a d bs e f (plan .target .0) R g (b .tried)
@@ -125,6 +105,6 @@ module _ {w : Weights} {p : ℕ} {target : Points} {plan : Plan} (pl : Planned w
           rw (← top)
               (one-placed (plan .a) (plan .c) (b .spread .top .0) (b .spread .rest .0)
               (0 ∷ b .spread .n300 .0 ∷ b .spread .n200 .0 ∷ b .spread .n100 .0 ∷ 0 ∷ []) (weightsOf w) (givensOf p k) refl refl
-              (e ∙ ap (λ (z : ℕ). z ∷ []) (sym (pl .a k ∙ ap (firstOf 0) e)))),
+              (e ∙ ap (λ (z : ℕ). z ∷ []) (sym (pl .ends .heaviest k ∙ ap (firstOf 0) e)))),
         )
     chosen (a ∷ (d ∷ bs)) e f o = two a d bs e (f .1) o

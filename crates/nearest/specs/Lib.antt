@@ -1,3 +1,3 @@
 pub mod Candidates
-pub mod Presence
+pub mod Walked
 pub mod Outcome

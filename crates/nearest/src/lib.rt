@@ -1,18 +1,19 @@
 // Nearest (document 01; not the repository's): of all splits the one whose points lie nearest to the rounded target.
 ghost use mathlib.Core.Path.{_≡_};
 ghost use mathlib.Core.Bool.{false, not, _&&_, _||_};
+ghost use mathlib.Core.Option.{none};
 ghost use lib.Dec.{eqb, ltb};
-ghost use Prim.Native.Nat.{ℕ, suc, _+_, _*_, _<_, _≤_, _-_};
+ghost use Prim.Native.Nat.{suc, _+_, _*_, _<_, _≤_, _-_};
 ghost use Rattle.units.specs.Limits.{most32, mostWeight};
 ghost use Rattle.score_state.specs.Points.{weightsOf};
 ghost use Rattle.score_state.specs.Given.{missing};
-ghost use Rattle.score_state.specs.declared.HitResults as Counts;
 ghost use Rattle.inspect.specs.Presence.{has, given, givensOf, lacking};
 ghost use Rattle.nearest_laws.specs.Walk as Walk;
 ghost use Rattle.nearest_laws.specs.Nearest as Nearest;
-ghost use Rattle.nearest_laws.specs.Places.{slotOf, placeOf};
-ghost use Rattle.walk.specs.Code.{view, fresh, middleOf};
-ghost use Rattle.nearest.specs.Presence.{firstOf, foldedOf, Planned, placesOf, walkedOf};
+ghost use Rattle.nearest_laws.specs.Places.{placeOf};
+ghost use Rattle.walk.specs.Code.{view, fresh};
+ghost use Rattle.plan.specs.Planned.{foldedOf};
+ghost use Rattle.nearest.specs.Walked.{placesOf, walkedOf};
 ghost use Rattle.nearest.specs.Candidates.{candidatesOf, Walkable};
 ghost use Rattle.nearest.specs.Outcome.{fiveOf, givenFive, foundOf, outcomeOf, Ask};
 use inspect::Missing;
@@ -21,7 +22,6 @@ use score_state::Weights;
 use units::Hits;
 use units::Points;
 use walk::Best;
-use walk::Middle;
 use walk::Plan;
 use walk::Setting;
 use walk::Spread;
@@ -47,104 +47,6 @@ pub enum Outcome {
     NoSplit,
 }
 
-// Euclid's greatest common divisor.
-fn gcd(x: u32, y: u32) -> u32
-    ensures { λ r. ⌜ r ≡ Walk.gcd x y ⌝ }
-{
-    let mut p = x;
-    let mut q = y;
-    while q != 0 {
-        let r = p % q;
-        p = q;
-        q = r;
-    }
-    p
-}
-
-// q of the middle b.
-fn stride(a: u32, c: u32, b: u32) -> u32
-    requires { ⌜ (c < b) × (b < a) ⌝ }
-    ensures { λ r. ⌜ r ≡ Walk.stride a c b ⌝ }
-{
-    let w = a - c;
-    w / gcd(w, b - c)
-}
-
-// Step 1: where n320 and n300 weigh the same and both are missing, n300 counts as given.
-fn folded(weights: Weights, presence: u8) -> u8
-    ensures { λ r. ⌜ r ≡ foldedOf weights presence ⌝ }
-{
-    if inspect::is_given(presence, inspect::N320) {
-        return presence;
-    }
-    if inspect::is_given(presence, inspect::N300) {
-        return presence;
-    }
-    if weights.n320 != weights.n300 {
-        return presence;
-    }
-    presence + inspect::N300
-}
-
-// The heaviest missing weight, 0 where none is missing.
-fn heaviest(weights: Weights, presence: u8) -> u32
-    ensures { λ r. ⌜ ((g : Counts.HitResults) → r ≡ firstOf 0 (missing (weightsOf weights) (givensOf presence g))) ⌝ }
-{
-    let n50 = inspect::pick(presence, inspect::N50, weights.n50, 0);
-    let n100 = inspect::pick(presence, inspect::N100, weights.n100, n50);
-    let n200 = inspect::pick(presence, inspect::N200, weights.n200, n100);
-    let n300 = inspect::pick(presence, inspect::N300, weights.n300, n200);
-    inspect::pick(presence, inspect::N320, weights.n320, n300)
-}
-
-// The lightest missing weight, 0 where none is missing.
-fn lightest(weights: Weights, presence: u8) -> u32
-    ensures { λ r. ⌜ ((g : Counts.HitResults) → r ≡ Walk.lastOf 0 (missing (weightsOf weights) (givensOf presence g))) ⌝ }
-{
-    let n320 = inspect::pick(presence, inspect::N320, weights.n320, 0);
-    let n300 = inspect::pick(presence, inspect::N300, weights.n300, n320);
-    let n200 = inspect::pick(presence, inspect::N200, weights.n200, n300);
-    let n100 = inspect::pick(presence, inspect::N100, weights.n100, n200);
-    inspect::pick(presence, inspect::N50, weights.n50, n100)
-}
-
-// What stands at a place: a middle where its count is missing and its weight lies between a and c.
-fn middle_at(presence: u8, place: u8, weight: u32, a: u32, c: u32) -> Middle
-    requires { ⌜ 0 < place ⌝ }
-    ensures { λ r. ⌜ ((n : ℕ) → middleOf r ≡ slotOf a c weight (given (has presence place) n)) ⌝ }
-{
-    let idle = Middle { weight: 0, q: 1 };
-    if inspect::is_given(presence, place) {
-        return idle;
-    }
-    if a <= weight {
-        return idle;
-    }
-    if weight <= c {
-        return idle;
-    }
-    Middle {
-        weight: weight,
-        q: stride(a, c, weight),
-    }
-}
-
-// The plan of the walk for the missing judgements.
-fn plan_of(weights: Weights, presence: u8, target: Points) -> Plan
-    ensures { λ r. ⌜ Planned weights presence target r ⌝ }
-{
-    let a = heaviest(weights, presence);
-    let c = lightest(weights, presence);
-    Plan {
-        a: a,
-        c: c,
-        n300: middle_at(presence, inspect::N300, weights.n300, a, c),
-        n200: middle_at(presence, inspect::N200, weights.n200, a, c),
-        n100: middle_at(presence, inspect::N100, weights.n100, a, c),
-        target: target,
-    }
-}
-
 // The best of the candidates: none where nothing is missing, all hits that are left where one is, or the walk's.
 fn best_of(presence: u8, plan: Plan, remain_hits: Hits, points: Points) -> Best
     requires { ⌜ Walkable (lacking presence) plan («remain_hits» .0) (points .0) ⌝ }
@@ -166,7 +68,20 @@ fn best_of(presence: u8, plan: Plan, remain_hits: Hits, points: Points) -> Best
     }
 }
 
-// The count at a place: the given one, that of a, that of c, or the middle's.
+// The count of a missing judgement: that of a, that of c, or the middle's.
+fn share_of(spread: Spread, plan: Plan, weight: u32, middle: Hits) -> Hits
+    ensures { λ r. ⌜ r .0 ≡ placeOf (plan .a) (plan .c) (spread .top .0) (spread .rest .0) weight none (middle .0) ⌝ }
+{
+    if weight == plan.a {
+        return spread.top;
+    }
+    if weight == plan.c {
+        return spread.rest;
+    }
+    middle
+}
+
+// The count at a place: the given one, or a missing one's.
 fn place_of(
     spread: Spread,
     plan: Plan,
@@ -179,16 +94,12 @@ fn place_of(
     requires { ⌜ 0 < place ⌝ }
     ensures { λ r. ⌜ r .0 ≡ placeOf (plan .a) (plan .c) (spread .top .0) (spread .rest .0) weight (given (has presence place) count) (middle .0) ⌝ }
 {
+    let share = share_of(spread, plan, weight, middle);
     if inspect::is_given(presence, place) {
-        return Hits(count);
+        Hits(count)
+    } else {
+        share
     }
-    if weight == plan.a {
-        return spread.top;
-    }
-    if weight == plan.c {
-        return spread.rest;
-    }
-    middle
 }
 
 // The counts of a candidate at their places, the given ones among them.
@@ -206,7 +117,7 @@ fn placed(x: Spread, weights: Weights, presence: u8, known: HitResults, plan: Pl
     }
 }
 
-// Steps 2 to 4: the split that the walk finds, with the hits to give and the points of the given counts.
+// Steps 1 to 4: the split that the walk finds, with the hits to give and the points of the given counts.
 fn found(
     weights: Weights,
     presence: u8,
@@ -215,13 +126,14 @@ fn found(
     points: Points,
     target: Points,
 ) -> Split
-    requires { ⌜ Walk.Falling (suc mostWeight) (missing (weightsOf weights) (givensOf presence known)) × (points .0 + mostWeight * «remain_hits» .0 ≤ most32) ⌝ }
-    ensures { λ r. ⌜ foundOf r ≡ walkedOf (weightsOf weights) (givensOf presence known) (target .0) («remain_hits» .0) (points .0) ⌝ }
+    requires { ⌜ Walk.Falling (suc mostWeight) (missing (weightsOf weights) (givensOf (foldedOf weights presence) known)) × (points .0 + mostWeight * «remain_hits» .0 ≤ most32) ⌝ }
+    ensures { λ r. ⌜ foundOf r ≡ walkedOf (weightsOf weights) (givensOf (foldedOf weights presence) known) (target .0) («remain_hits» .0) (points .0) ⌝ }
 {
-    let plan = plan_of(weights, presence, target);
-    let best = best_of(presence, plan, remain_hits, points);
+    let plan = plan::plan_of(weights, presence, target);
+    let folded = plan::folded(weights, presence);
+    let best = best_of(folded, plan, remain_hits, points);
     Split {
-        counts: placed(best.spread, weights, presence, known, plan),
+        counts: placed(best.spread, weights, folded, known, plan),
         tried: best.tried,
     }
 }
@@ -261,12 +173,5 @@ pub fn nearest(weights: Weights, presence: u8, given: Five, remain: Hits, target
     }
     let points = score_state::points_of(weights, known);
     let remain_hits = remain.minus(sum);
-    Outcome::Found(found(
-        weights,
-        folded(weights, presence),
-        known,
-        remain_hits,
-        points,
-        target,
-    ))
+    Outcome::Found(found(weights, presence, known, remain_hits, points, target))
 }

@@ -2,7 +2,7 @@
 use Prim.Native.Nat.{ℕ, zero, suc, _+_, _-_, _*_, _/_, _%_, _<_, _≤_, _∣_}
 use mathlib.Core.Path.{_≡_, refl, sym, ap, ap₂, _∙_, subst₂}
 use lib.Dec.{eqb, eqb·suc-zero}
-use native.Mathlib.Nat.{dvd-refl, dvd-zero, dvd-mod-iff, mod-lt, mul-div-cancel', dvd-sub, mul-add, add-mul, mul-comm, mul-assoc, mul-left-comm, eq-of-mul-eq-mul-left, mul-zero, zero-mul, div-add-mod', div-le-self}
+use native.Mathlib.Nat.{dvd-refl, dvd-zero, dvd-mod-iff, mod-lt, mul-div-cancel', dvd-sub, mul-add, add-mul, mul-comm, mul-assoc, mul-left-comm, eq-of-mul-eq-mul-left, mul-zero, mul-suc, zero-mul, div-add-mod', div-le-self}
 use native.Mathlib.Omega.{arith}
 use Rattle.nearest_laws.specs.Walk.{gcdIn, gcd, stride, Middle}
 
@@ -138,3 +138,16 @@ reduced a c m e pos x =
 pub stride-le : (a c b : ℕ) → stride a c b ≤ a - c
 unfolding stride
 stride-le a c b = div-le-self (a - c) (gcd (a - c) (b - c))
+
+two : (g q u x y : ℕ) → g * q ≡ x → g * u ≡ y → 0 < y → y < x → 1 < q
+two g zero u x y eq eu pos less = absurd (omega (arith, mul-zero g))
+two g (suc zero) zero x y eq eu pos less = absurd (omega (arith, mul-zero g))
+two g (suc zero) (suc u) x y eq eu pos less = absurd (omega (arith, mul-suc g u))
+two g (suc (suc q)) u x y eq eu pos less = omega arith
+
+-- a middle's q is at least 2
+pub stride-two : (a c b : ℕ) → c < b → b < a → 1 < stride a c b
+unfolding stride
+stride-two a c b cb ba =
+    let d = both a c b cb ba in
+    two (gcd (a - c) (b - c)) _ _ (a - c) (b - c) (mul-div-cancel' _ (d .0)) (mul-div-cancel' _ (d .1)) (omega arith) (omega arith)

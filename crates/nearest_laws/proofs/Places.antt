@@ -5,14 +5,14 @@ use mathlib.Core.Path.{_≡_, refl, sym, ap, ap₂, _∙_, subst}
 use mathlib.Core.Bool.{Bool, true, false, cond, _&&_}
 use mathlib.Core.List.{List, [], _∷_, _++_, head-eq-of-cons-eq, tail-eq-of-cons-eq}
 use mathlib.Core.Option.{Option, none, some}
-use lib.Dec.{ltb}
+use lib.Dec.{ltb, eqb}
 use lib.ListN.{length}
 use native.Mathlib.Omega.{arith}
 use borrow.Author.Tests.{ltb-true, lt-ltb, le-ltb, eq-eqb, ne-eqb}
 use Rattle.score_state.specs.Given.{missing, fill}
 use Rattle.nearest_laws.specs.Walk.{Middle, Best, stride, start, settle, settings, lastOf, initOf, middles, middlesOf, walk, Falling}
 use Rattle.nearest_laws.specs.Places.{idle, slotOf, slots, Slot, placeOf, places}
-use Rattle.nearest_laws.proofs.Exchange.{stride-pos, stride-le}
+use Rattle.nearest_laws.proofs.Exchange.{stride-pos, stride-le, stride-two}
 use Rattle.nearest_laws.proofs.Near.{last-lt, walk-split}
 use Rattle.nearest_laws.proofs.Pad.{Pads, done, keep, skip, padded, spread, onBest, walk-padded, walk-places}
 
@@ -43,6 +43,23 @@ slot-good a c w none = go (ltb w a) refl (ltb c w) refl
     go true e false f = record { weight = omega arith; some = omega arith; few = omega arith }
     go false e true f = record { weight = omega arith; some = omega arith; few = omega arith }
     go false e false f = record { weight = omega arith; some = omega arith; few = omega arith }
+
+-- a stride of 1 tells that there is no middle
+pub slot-by-q : (a c w : ℕ) (g : Option ℕ) → record { weight = cond (eqb (slotOf a c w g .q) 1) 0 w; q = slotOf a c w g .q } ≡ slotOf a c w g
+unfolding slotOf
+slot-by-q a c w (some n) = refl
+slot-by-q a c w none = go (ltb w a) refl (ltb c w) refl
+  where
+    at : Bool → Middle
+    at b = cond b (record { weight = w; q = stride a c w }) idle
+
+    go
+        : (x : Bool) → ltb w a ≡ x → (y : Bool) → ltb c w ≡ y
+        → record { weight = cond (eqb (at (x && y) .q) 1) 0 w; q = at (x && y) .q } ≡ at (x && y)
+    go true e true f = rw (ne-eqb (stride a c w) 1 (λ z. omega (arith, stride-two a c w (ltb-true c w f) (ltb-true w a e))))
+    go true e false f = refl
+    go false e true f = refl
+    go false e false f = refl
 
 place-top : (a c top rest w m : ℕ) → w ≡ a → top ≡ placeOf a c top rest w none m
 unfolding placeOf

@@ -23,6 +23,9 @@ const LEAST: Duration = Duration::from_millis(500);
 /// Queries of a batch whose calls are short: so many that no branch predictor knows them by heart.
 const MANY: usize = 65_536;
 
+/// The candidates of a short walk.
+const FEW: u32 = 4;
+
 /// Nanoseconds a call in one pass.
 fn pass<T, R>(batch: &[T], call: impl Fn(&T) -> R) -> f64 {
     let start = Instant::now();
@@ -235,6 +238,16 @@ fn longest_walk() {
     );
 }
 
+/// Queries for Nearest whose walk is short, so that what comes before it counts.
+fn short_walks(rng: &mut Rng) {
+    for missing in 2..=5 {
+        let mut batch = mixed(rng, Method::Nearest, 16 * MANY, 20);
+        batch.retain(|q| q.missing() == missing && nearest::walk(q).1 <= FEW);
+        let what = format!("nearest, {missing} missing, at most {FEW} candidates");
+        method(&what, Method::Nearest, &batch);
+    }
+}
+
 pub fn run(rng: &mut Rng) {
     accuracy(rng);
     target(rng);
@@ -252,6 +265,7 @@ pub fn run(rng: &mut Rng) {
     closest(rng);
     longest_walk();
     sheets(rng);
+    short_walks(rng);
 }
 
 /// A full sheet: its bytes, and its queries as the Rust takes them.

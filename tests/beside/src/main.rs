@@ -33,6 +33,7 @@ mod repo;
 mod sheet;
 mod sheet_inputs;
 mod sheets;
+mod strides;
 mod tally;
 mod target;
 
@@ -42,12 +43,13 @@ include!(concat!(env!("OUT_DIR"), "/tree.rs"));
 /// The parts in their order, each with what runs it and says whether nothing differed.
 type Part = (&'static str, fn(&mut Rng) -> bool);
 
-const PARTS: [Part; 9] = [
+const PARTS: [Part; 10] = [
     ("accuracy", accuracy::run),
     ("target", target::run),
     ("ignore_acc", |rng| plain::run(Method::IgnoreAcc, rng)),
     ("fast", |rng| plain::run(Method::Fast, rng)),
     ("closest", closest::run),
+    ("strides", strides::run),
     ("nearest", nearest::run),
     ("generate", generate::run),
     ("sheets", sheets::run),

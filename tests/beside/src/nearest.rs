@@ -35,9 +35,7 @@ impl Walk {
             return self.ends(a, c, hits, score);
         }
 
-        let q = (a - c) / gcd(a - c, b - c);
-
-        for n in 0..=hits.min(q - 1) {
+        for n in 0..=hits.min(stride(a, b, c) - 1) {
             self.counts[middle] = n;
 
             if self.middles(middle + 1, hits - n, score - n * b) {
@@ -75,6 +73,11 @@ impl Walk {
 
 fn gcd(a: i64, b: i64) -> i64 {
     if b == 0 { a } else { gcd(b, a % b) }
+}
+
+/// q of the middle b.
+pub fn stride(a: i64, b: i64, c: i64) -> i64 {
+    (a - c) / gcd(a - c, b - c)
 }
 
 /// The walk's five counts and tried, for a query that no check stops.

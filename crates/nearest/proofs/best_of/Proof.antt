@@ -8,7 +8,8 @@ use Rattle.inspect.proofs.Lacking.{is-nothing, is-one}
 use Rattle.nearest_laws.specs.Walk.{Best, over, settle}
 use Rattle.nearest_laws.proofs.Search.{three-count}
 use Rattle.walk.specs.Code.{view, middleOf}
-use Rattle.nearest.proofs.Chosen.{two-missing, candidates-two}
+use Rattle.plan.proofs.Missing.{two-missing}
+use Rattle.nearest.proofs.Chosen.{candidates-two}
 use Rattle.nearest.proofs.best_of.Statement.{statement}
 use Rattle.nearest.proofs.best_of.Tie as tie
 

@@ -9,7 +9,7 @@ use Rattle.score_state.specs.Given.{givenHits, givenPoints}
 use Rattle.inspect.specs.Presence.{unwrapOrZero}
 use Rattle.nearest_laws.specs.Nearest.{stops, nearest, found}
 use Rattle.nearest_laws.proofs.Nearest.{stops-room}
-use Rattle.nearest.specs.Presence.{walkedOf}
+use Rattle.nearest.specs.Walked.{walkedOf}
 use Rattle.nearest.specs.Outcome.{givenFive}
 use Rattle.nearest.proofs.Known.{five-given, unwrap-hits, unwrap-points, folded-is}
 use Rattle.nearest.proofs.Asked.{sixOf, capped, light, falls, fits}
@@ -55,17 +55,17 @@ points-of-requires c κs = (light (c .before .before .before .before .before .pr
 
 found-requires : tie.Need-found-requires
 found-requires c κs = (
-  rw (c .folded .ensures, known (c .before .before .before .before .before .before)) (falls (c .before .before .before .before .before .before .before .before .pre)),
-  rw (points (c .before .before), c .before .minus .ensures, sum (c .before .before .before .before .before)) (fits (c .before .before .before .before .before .before .before .before .pre) (within (c .before .before .before))),
+  rw (known (c .before .before .before .before .before)) (falls (c .before .before .before .before .before .before .before .pre)),
+  rw (points (c .before), c .minus .ensures, sum (c .before .before .before .before)) (fits (c .before .before .before .before .before .before .before .pre) (within (c .before .before))),
 )
 
 returns-2 : tie.Need-returns-2
 unfolding nearest found walkedOf
 returns-2 c =
-    let x = c .before .before .before .before .before .before .before .before .before .args in
-    rw (goes (c .before .before .before .before))
+    let x = c .before .before .before .before .before .before .before .before .args in
+    rw (goes (c .before .before .before))
     (ap some
-    (rw (c .before .folded .ensures, known (c .before .before .before .before .before .before .before), folded-is (x .weights) (x .presence) (sixOf (x .given)), c .before .before .minus .ensures, sum (c .before .before .before .before .before .before), points (c .before .before .before))
+    (rw (known (c .before .before .before .before .before .before), folded-is (x .weights) (x .presence) (sixOf (x .given)), c .before .minus .ensures, sum (c .before .before .before .before .before), points (c .before .before))
     at (c .found .ensures)))
 
 pub nearest-spec : {M : Type 1} → statement M
@@ -79,6 +79,5 @@ nearest-spec =
     returns
     points-of-requires
     (λ c κs. rw (sum (c .before .before .before)) (within (c .before)))
-    (λ c κs. search needs)
     found-requires
     returns-2)

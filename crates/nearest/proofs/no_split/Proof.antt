@@ -6,7 +6,7 @@ use borrow.Author.Tests.{ne-eqb}
 use Rattle.inspect.specs.Presence.{lacking}
 use Rattle.inspect.proofs.Lacking.{is-nothing}
 use Rattle.nearest.proofs.Known.{less-or-same}
-use Rattle.nearest.proofs.Chosen.{some-missing}
+use Rattle.plan.proofs.Missing.{some-missing}
 use Rattle.nearest.proofs.no_split.Statement.{statement}
 use Rattle.nearest.proofs.no_split.Tie as tie
 

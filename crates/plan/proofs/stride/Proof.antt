@@ -5,8 +5,8 @@ use native.Mathlib.Omega.{arith}
 use borrow.Author.Needs.{needs}
 use Rattle.nearest_laws.specs.Walk.{stride}
 use Rattle.nearest_laws.proofs.Exchange.{gcd-pos}
-use Rattle.nearest.proofs.stride.Statement.{statement}
-use Rattle.nearest.proofs.stride.Tie as tie
+use Rattle.plan.proofs.stride.Statement.{statement}
+use Rattle.plan.proofs.stride.Tie as tie
 
 div-result : tie.Need-div-result
 div-result c =

@@ -1,8 +1,8 @@
 -- `lightest` is the last of the missing weights.
 use borrow.Author.Needs.{needs}
-use Rattle.nearest.proofs.Known.{last-step, last-none}
-use Rattle.nearest.proofs.lightest.Statement.{statement}
-use Rattle.nearest.proofs.lightest.Tie as tie
+use Rattle.plan.proofs.Missing.{last-step, last-none}
+use Rattle.plan.proofs.lightest.Statement.{statement}
+use Rattle.plan.proofs.lightest.Tie as tie
 
 returns : tie.Need-returns
 returns c =

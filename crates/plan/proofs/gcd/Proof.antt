@@ -5,8 +5,8 @@ use native.Mathlib.Omega.{arith}
 use borrow.Author.Needs.{needs}
 use Rattle.nearest_laws.specs.Walk.{gcd}
 use Rattle.nearest_laws.proofs.Exchange.{gcd-step, gcd-end}
-use Rattle.nearest.proofs.gcd.Statement.{statement}
-use Rattle.nearest.proofs.gcd.Tie as tie
+use Rattle.plan.proofs.gcd.Statement.{statement}
+use Rattle.plan.proofs.gcd.Tie as tie
 
 abbrev Inv-loop : tie.InvT-loop
 Inv-loop x y p₀ q₀ p q = gcd p q ≡ gcd p₀ q₀

@@ -1,8 +1,8 @@
 -- `heaviest` is the first of the missing weights.
 use borrow.Author.Needs.{needs}
-use Rattle.nearest.proofs.Known.{first-step, first-none}
-use Rattle.nearest.proofs.heaviest.Statement.{statement}
-use Rattle.nearest.proofs.heaviest.Tie as tie
+use Rattle.plan.proofs.Missing.{first-step, first-none}
+use Rattle.plan.proofs.heaviest.Statement.{statement}
+use Rattle.plan.proofs.heaviest.Tie as tie
 
 returns : tie.Need-returns
 returns c =

@@ -4,9 +4,9 @@ use mathlib.Core.Path.{sym, _∙_}
 use native.Mathlib.Omega.{arith}
 use borrow.Author.Needs.{needs}
 use borrow.Author.Tests.{eqb-false, eq-eqb, ne-eqb}
-use Rattle.nearest.specs.Presence.{foldedOf}
-use Rattle.nearest.proofs.folded.Statement.{statement}
-use Rattle.nearest.proofs.folded.Tie as tie
+use Rattle.plan.specs.Planned.{foldedOf}
+use Rattle.plan.proofs.folded.Statement.{statement}
+use Rattle.plan.proofs.folded.Tie as tie
 
 returns : tie.Need-returns
 unfolding foldedOf

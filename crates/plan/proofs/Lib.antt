@@ -1,0 +1,5 @@
+pub mod Missing
+pub mod Fold
+pub mod Strides
+pub mod Few
+pub mod Rows
