@@ -69,6 +69,7 @@ two-missing zero m e o = absurd (no-other 0 m (2 ∷ 3 ∷ []) e tt o)
 two-missing (suc zero) m e o = absurd (no-other 1 m (2 ∷ 3 ∷ []) e tt o)
 two-missing (suc (suc n)) m e o = omega arith
 
+-- the cases but `ThreePlus`
 pub few-missing : (n : ℕ) (m : Missing) → m ≡ missingOf n → OneOf (0 ∷ 1 ∷ 2 ∷ []) (tagOf the-type m) → n < 3
 few-missing zero m e o = omega arith
 few-missing (suc zero) m e o = omega arith

@@ -5,7 +5,8 @@ ghost use lib.ListN.{getD};
 ghost use Rattle.stride_rows.specs.Strides.{rowOf, strideTable};
 
 // A row for each classic flag and presence pattern: the strides of n320, n300, n200, n100 and n50 after the classic pair is folded, 1
-// where there is no middle. Behind each row its number and the missing weights; one in brackets is folded away.
+// where there is no middle. Behind each row its number and the missing weights; one in brackets is folded away. The compiler writes what
+// may be read of a constant to the stack at each read, so the entries are u8.
 const STRIDES: [[u8; 5]; 64] = [
     [1, 51, 17, 51, 1], // 0: 61 60 40 20 10
     [1, 1, 5, 5, 1], // 1: 60 40 20 10
@@ -73,13 +74,14 @@ const STRIDES: [[u8; 5]; 64] = [
     [1, 1, 1, 1, 1], // 63: none
 ];
 
+// A stride as the walk's number.
 fn wide(stride: u8) -> u32
     ensures { λ r. ⌜ r ≡ stride ⌝ }
 {
     stride as u32
 }
 
-// A row as the walk's numbers.
+// A row of them.
 fn widened(row: [u8; 5]) -> [u32; 5]
     ensures { λ r. ⌜ r ≡ row ⌝ }
 {
@@ -92,7 +94,8 @@ fn widened(row: [u8; 5]) -> [u32; 5]
     ]
 }
 
-// The strides of a standard weighting where these counts are given; bits of presence above N50 are not looked at.
+// The strides of a standard weighting where these counts are given; bits of presence above N50 are not looked at. Each half of the table
+// is read in a branch of its own, so that the other is not written.
 pub fn stride_row(classic: bool, presence: u8) -> [u32; 5]
     ensures { λ r. ⌜ r ≡ getD strideTable (rowOf classic presence) [] ⌝ }
 {
