@@ -30,8 +30,10 @@ enum nuqsillay_status {
     NUQSILLAY_OVERFULL = 12,      /* Closest: acc is given, hits remain, exactly two counts are missing, and the given ones sum
                                      to over the remaining hits */
     NUQSILLAY_ACC_MISSING = 13,   /* Nearest: acc is missing */
-    NUQSILLAY_NO_SPLIT = 14       /* Nearest: no split exists, as the given counts sum to over the remaining hits, or all five
+    NUQSILLAY_NO_SPLIT = 14,      /* Nearest: no split exists, as the given counts sum to over the remaining hits, or all five
                                      are given with another sum */
+    NUQSILLAY_BAD_WEIGHTS = 18    /* weights do not fall from at most 100 to at least 1: strictly, but for the first two, which may
+                                     be equal */
 };
 
 enum nuqsillay_method {
@@ -85,6 +87,13 @@ uint32_t nuqsillay_generate(uint32_t n_objects, uint32_t n_hold_notes, uint8_t m
  *   0 chart index u16, 2 method u8, 3 priority u8, 4 classic u8 (0, 1), 5 presence u8, 6 two zero bytes,
  *   8 n320, 12 n300, 16 n200, 20 n100, 24 n50, 28 misses, 32 passed, each u32, 36 acc f64; a missing field is all zero bytes. */
 uint32_t nuqsillay_work_sheet(const uint8_t *sheet, size_t sheet_len, uint8_t *out, size_t out_len);
+
+/* The strides of Nearest's walk under any two weightings, a and b, each from n320 to n50. out, of at least 320 numbers: 64 rows of five, from
+ * n320 to n50; rows 0 to 31 are a's, one for each value of presence's five lowest bits, rows 32 to 63 b's. A stride is q at a middle and
+ * 1 elsewhere; where the first two weights are equal and both missing, n300 counts as given. Numbers past the 320th stay.
+ * Refused by 18, 5, in that order. */
+uint32_t nuqsillay_strides(uint32_t a320, uint32_t a300, uint32_t a200, uint32_t a100, uint32_t a50, uint32_t b320,
+                           uint32_t b300, uint32_t b200, uint32_t b100, uint32_t b50, uint32_t *out, size_t out_len);
 
 #ifdef __cplusplus
 }

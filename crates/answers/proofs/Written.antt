@@ -5,7 +5,8 @@ use mathlib.Core.List.{List, [], _∷_}
 use Prim.Native.Nat.{ℕ, zero, suc, _+_, _*_, _<_}
 use native.Mathlib.Omega.{arith}
 use lib.ListN.{length}
-use Rattle.little_endian.specs.Bytes.{u32At, bytes4, put}
+use Rattle.lists.specs.Lists.{put}
+use Rattle.little_endian.specs.Bytes.{u32At, bytes4}
 use Rattle.little_endian.proofs.Put.{bytes4-back}
 use Rattle.score_state.specs.declared.HitResults.{HitResults}
 use Rattle.score_state.specs.Answer.{Answer, statusOf}

@@ -3,7 +3,7 @@ ghost use mathlib.Core.Path.{_≡_};
 ghost use mathlib.Core.List.{[], _∷_};
 ghost use Prim.Native.Nat.{_+_, _≤_};
 ghost use lib.ListN.{length};
-ghost use Rattle.little_endian.specs.Bytes.{put};
+ghost use Rattle.lists.specs.Lists.{put};
 ghost use Rattle.generate.specs.Generated.{generatedOf};
 ghost use Rattle.answers.specs.Answers.{fieldBytes, answerBytes};
 use generate::Generated;

@@ -1,8 +1,8 @@
 -- Document 01, Records: "Figures are decimal and fields little-endian." Numbers of a list of bytes, where past its end a byte is
--- 0; the four bytes of a number; and a list with bytes put in place of others.
-use mathlib.Core.List.{List, [], _∷_, _++_}
+-- 0; and the four bytes of a number.
+use mathlib.Core.List.{List, [], _∷_}
 use Prim.Native.Nat.{ℕ, _+_, _*_, _/_, _%_}
-use lib.ListN.{length, getD, take, drop}
+use lib.ListN.{getD}
 
 abbrev pub byte : List ℕ → ℕ → ℕ
 byte s i = getD s i 0
@@ -19,7 +19,3 @@ u64At s i = u32At s i + 4294967296 * u32At s (i + 4)
 -- the four bytes of a number
 unfoldable pub bytes4 : ℕ → List ℕ
 bytes4 n = n % 256 ∷ n / 256 % 256 ∷ n / 65536 % 256 ∷ n / 16777216 % 256 ∷ []
-
--- s with vs in place of what stood from i on
-unfoldable pub put : List ℕ → ℕ → List ℕ → List ℕ
-put s i vs = take i s ++ vs ++ drop (i + length vs) s

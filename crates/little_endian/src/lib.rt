@@ -3,7 +3,8 @@ ghost use mathlib.Core.Path.{_≡_};
 ghost use Prim.Native.Nat.{_+_, _<_, _≤_};
 ghost use lib.ListN.{length};
 ghost use lib.Ieee.{binary64, ofBits};
-ghost use Rattle.little_endian.specs.Bytes.{u16At, u32At, u64At, bytes4, put};
+ghost use Rattle.lists.specs.Lists.{put};
+ghost use Rattle.little_endian.specs.Bytes.{u16At, u32At, u64At, bytes4};
 
 fn wide(x: u8) -> u32
     ensures { λ r. ⌜ (r ≡ x) × (r < 256) ⌝ }

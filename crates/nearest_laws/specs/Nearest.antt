@@ -6,7 +6,7 @@ use mathlib.Core.List.{List, [], _∷_}
 use mathlib.Core.Option.{Option, none, some}
 use mathlib.Core.Path.{_≡_, refl}
 use native.Mathlib.Omega.{arith}
-use lib.Dec.{eqb, ltb}
+use lib.Dec.{eqb, ltb, leb}
 use Rattle.score_state.specs.Points.{standard}
 use Rattle.score_state.specs.Given.{missing, givenHits, givenPoints, fill}
 use Rattle.nearest_laws.specs.Walk.{walk}
@@ -31,6 +31,16 @@ standard-weighting true =
     record { n320 = 60; n300 = 60; n200 = 40; n100 = 20; n50 = 10; five = refl; perfect = omega arith; great = omega arith; good = omega arith; ok = omega arith; meh = omega arith; most = omega arith }
 standard-weighting false =
     record { n320 = 61; n300 = 60; n200 = 40; n100 = 20; n50 = 10; five = refl; perfect = omega arith; great = omega arith; good = omega arith; ok = omega arith; meh = omega arith; most = omega arith }
+
+-- The same as a test. Document 02, L4: "The first two may be equal ..; otherwise weights fall strictly, from at most 100 to at least 1."
+unfoldable pub weighs : List ℕ → Bool
+weighs [] = false
+weighs (a ∷ []) = false
+weighs (a ∷ (b ∷ [])) = false
+weighs (a ∷ (b ∷ (c ∷ []))) = false
+weighs (a ∷ (b ∷ (c ∷ (d ∷ [])))) = false
+weighs (a ∷ (b ∷ (c ∷ (d ∷ (e ∷ []))))) = leb a 100 && leb b a && ltb c b && ltb d c && ltb e d && leb 1 e
+weighs (a ∷ (b ∷ (c ∷ (d ∷ (e ∷ (f ∷ ws)))))) = false
 
 -- Step 1: "If classic with n320 and n300 both missing, n300 is 0 and counts as given. Priority plays no part." Classic is the
 -- weighting whose first two weights are equal.

@@ -1,8 +1,9 @@
 -- The calls of include/nuqsillay.h. Each answers document 01's status and writes its values only where that is 0 (a refused direct
--- call has "no counts"); an output without room for them is refused by 5, before anything else, and left unchanged.
+-- call has "no counts"); an output without room for them is refused by 5, before anything else, and left unchanged. For
+-- `nuqsillay_strides` document 02, L6, has its own order: "bad weights by 18 before that".
 use Prim.Native.Nat.{ℕ, _*_, _/_}
 use mathlib.Core.Bool.{Bool}
-use mathlib.Core.List.{List}
+use mathlib.Core.List.{List, [], _∷_}
 use lib.Ieee.{Float}
 use Rattle.score_state.specs.Answer.{Answer, worked, refused, statusOf}
 use Rattle.inspect.specs.declared.Accuracy.the-variants.{Given}
@@ -37,3 +38,7 @@ targetQuery objects holds classic presence misses passed acc =
 -- a sheet's status, and all bytes of its output
 abbrev pub sheetLent : List ℕ → List ℕ → Lent
 sheetLent s out = lent (statusOf (sheetOf s out .answer)) (sheetOf s out .bytes)
+
+-- five weights, from n320 to n50
+abbrev pub fiveWeights : ℕ → ℕ → ℕ → ℕ → ℕ → List ℕ
+fiveWeights w320 w300 w200 w100 w50 = w320 ∷ w300 ∷ w200 ∷ w100 ∷ w50 ∷ []

@@ -1,17 +1,20 @@
 // The calls that C and Rust programs link: numbers and slices only. Their header is include/nuqsillay.h.
 ghost use mathlib.Core.Path.{_≡_};
+ghost use lib.ListN.{length};
 ghost use Rattle.score_state.specs.Answer.{statusOf};
 ghost use Rattle.score_state.specs.Accuracy.{accuracyAnswer};
 ghost use Rattle.inspect.specs.Answers.{targetAnswer};
 ghost use Rattle.generate_laws.specs.Generate.{generateAnswer};
 ghost use Rattle.direct.specs.Direct.{sixCounts, lent, handed, queryBy};
-ghost use Rattle.nuqsillay.specs.Exports.{valueOr, targetQuery, sheetLent};
+ghost use Rattle.stride_table.specs.StrideTable.{tableStatus, tableOut};
+ghost use Rattle.nuqsillay.specs.Exports.{valueOr, targetQuery, sheetLent, fiveWeights};
 use inspect::Accuracy;
 use inspect::Chart;
 use inspect::Query;
 use inspect::TargetAnswer;
 use score_state::AccuracyAnswer;
 use score_state::HitResults;
+use score_state::Weights;
 use sheets::SheetAnswer;
 
 // `accuracy`: 0 with the accuracy behind value, or 10.
@@ -157,4 +160,40 @@ pub extern "C" fn nuqsillay_work_sheet(sheet: &[u8], out: &mut [u8]) -> u32
         SheetAnswer::Worked(_) => 0,
         SheetAnswer::Refused(n) => n,
     }
+}
+
+// The stride table of two weightings, a and b: 0 with its 320 numbers in out; or 18 where either is none that a league may set, then 5
+// where out is too short, with out unchanged.
+#[no_mangle]
+pub extern "C" fn nuqsillay_strides(
+    a320: u32,
+    a300: u32,
+    a200: u32,
+    a100: u32,
+    a50: u32,
+    b320: u32,
+    b300: u32,
+    b200: u32,
+    b100: u32,
+    b50: u32,
+    out: &mut [u32],
+) -> u32
+    ensures { λ r. ⌜ r ≡ tableStatus (fiveWeights a320 a300 a200 a100 a50) (fiveWeights b320 b300 b200 b100 b50) (length (now (out .entry))) ⌝ }
+    ensures { λ _. ⌜ now (out .exit) ≡ tableOut (fiveWeights a320 a300 a200 a100 a50) (fiveWeights b320 b300 b200 b100 b50) (now (out .entry)) ⌝ }
+{
+    let first = Weights {
+        n320: a320,
+        n300: a300,
+        n200: a200,
+        n100: a100,
+        n50: a50,
+    };
+    let second = Weights {
+        n320: b320,
+        n300: b300,
+        n200: b200,
+        n100: b100,
+        n50: b50,
+    };
+    stride_table::fill_strides(first, second, out)
 }

@@ -96,8 +96,8 @@ fn stride_at(presence: u8, place: u8, weight: u32, a: u32, c: u32) -> u32
     stride(a, c, weight)
 }
 
-// The strides of any weights, by the formula.
-fn by_formula(weights: Weights, presence: u8) -> [u32; 5]
+// The strides of any weights, by the formula. presence is the query's, before step 1.
+pub fn by_formula(weights: Weights, presence: u8) -> [u32; 5]
     ensures { λ r. ⌜ r ≡ stridesOf (weightsOf weights) (patternOf presence) ⌝ }
 {
     let p = folded(weights, presence);

@@ -1,11 +1,13 @@
 -- Document 01, Records, Sheet: "Charts (at most 256, 8 bytes: objects, holds), then queries (at most 1,024, 44 bytes): 0: chart
 -- index u16. 2: method u8. 3: priority u8. 4: classic u8. 5: presence u8. 6: two zero bytes. 8, 12, 16, 20, 24, 28: the five
--- counts and misses. 32: passed. 36: acc, f64 bits."
+-- counts and misses. 32: passed. 36: acc, f64 bits." Document 02, L4: "five u32 weights from n320 to n50"; L6: "ten weights as 40 bytes
+-- of u32".
 use mathlib.Core.List.{List, []}
 use Prim.Native.Nat.{ℕ, _+_}
 use Rattle.little_endian.specs.Bytes.{byte, u16At, u32At, u64At}
 use Rattle.inspect.specs.declared.Chart.{Chart}
 use Rattle.score_state.specs.declared.HitResults.{HitResults}
+use Rattle.score_state.specs.declared.Weights.{Weights}
 use Rattle.records.specs.declared.Row.{Row}
 
 -- the chart that starts at a place
@@ -48,3 +50,7 @@ countsAt s at =
 unfoldable pub noRow : Row
 unfolding rowAt
 noRow = rowAt [] 0
+
+-- the five weights that start at a place
+unfoldable pub weightsAt : List ℕ → ℕ → Weights
+weightsAt s at = record { n320 = u32At s at; n300 = u32At s (at + 4); n200 = u32At s (at + 8); n100 = u32At s (at + 12); n50 = u32At s (at + 16) }

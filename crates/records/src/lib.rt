@@ -1,10 +1,11 @@
-// A sheet's records as numbers: a chart of 8 bytes and a query's row of 44.
+// Records as numbers: a sheet's chart of 8 bytes and its query's row of 44, and five weights of 20.
 ghost use mathlib.Core.Path.{_≡_};
 ghost use Prim.Native.Nat.{_+_, _≤_};
 ghost use lib.ListN.{length};
-ghost use Rattle.records.specs.Records.{chartAt, countsAt, rowAt, noRow};
+ghost use Rattle.records.specs.Records.{chartAt, countsAt, rowAt, noRow, weightsAt};
 use inspect::Chart;
 use score_state::HitResults;
+use score_state::Weights;
 
 // A query as it stands in the sheet: zeros is the two bytes at 6 as one number, acc the bits of its f64.
 pub struct Row {
@@ -103,5 +104,24 @@ pub fn no_row() -> Row
         misses: 0,
         passed: 0,
         acc: 0,
+    }
+}
+
+// Five weights, from n320 to n50.
+pub fn read_weights(s: &[u8], at: usize) -> Weights
+    requires { ⌜ at + 20 ≤ length (now s) ⌝ }
+    ensures { λ r. ⌜ r ≡ weightsAt (now (s .entry)) at ⌝ }
+{
+    let n320 = little_endian::u32_at(s, at);
+    let n300 = little_endian::u32_at(s, at + 4);
+    let n200 = little_endian::u32_at(s, at + 8);
+    let n100 = little_endian::u32_at(s, at + 12);
+    let n50 = little_endian::u32_at(s, at + 16);
+    Weights {
+        n320,
+        n300,
+        n200,
+        n100,
+        n50,
     }
 }

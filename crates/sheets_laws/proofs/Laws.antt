@@ -16,7 +16,7 @@ use Rattle.answers.specs.Answers.{answerBytes, value}
 use Rattle.answers.proofs.Written.{status-back, value-back}
 use Rattle.sheets_laws.specs.Sheets.{chartCount, queryCount, rowsAt, sheetStop, chartsOf, answerAt, rowsWritten, WorkedSheet, sheetOf}
 use Rattle.sheets_laws.proofs.Accepted.{accepted, sheet-stopped, sheet-worked}
-use Rattle.sheets_laws.proofs.Joined.{length-written, written-part, written-rest}
+use Rattle.sheets_laws.proofs.Written.{length-written, written-part, written-rest}
 
 -- a number inside 32 bytes that stand at m
 within : (xs : List ℕ) (m j : ℕ) → j + 4 ≤ 32 → u32At xs (m + j) ≡ u32At (take 32 (drop m xs)) j

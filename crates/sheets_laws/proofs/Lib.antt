@@ -1,5 +1,5 @@
 pub mod Accepted
-pub mod Joined
+pub mod Written
 pub mod Laws
 pub mod Stops
 pub mod Demand3

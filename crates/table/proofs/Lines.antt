@@ -1,7 +1,7 @@
 -- What `printedOf` says in document 01's words: of a sheet that is stopped, `refused N`; of an accepted one, the header and for every
 -- query the line of its answer, where the answer's numbers fit the 32 bits that they have in the output.
 -- Assumes nothing.
-use mathlib.Core.Path.{_≡_, refl, ap, _∙_}
+use mathlib.Core.Path.{_≡_, ap, _∙_}
 use mathlib.Core.List.{List, [], _∷_, _++_}
 use Prim.Native.Nat.{ℕ, zero, suc, _+_, _*_, _<_}
 use native.Mathlib.Omega.{arith}
@@ -9,10 +9,12 @@ use lib.ListN.{length}
 use Rattle.little_endian.specs.Bytes.{u32At}
 use Rattle.score_state.specs.Answer.{Answer, statusOf}
 use Rattle.answers.specs.Answers.{value}
-use Rattle.text.specs.Text.{decimalText}
-use Rattle.sheets_laws.specs.Sheets.{joined, sheetStop, queryCount, answerAt, sheetOf}
+use Rattle.text.specs.Text.{decimalText, refusedText}
+use Rattle.lists.specs.Lists.{joined}
+use Rattle.lists.proofs.Joined.{same-pieces}
+use Rattle.sheets_laws.specs.Sheets.{sheetStop, queryCount, answerAt, sheetOf}
 use Rattle.sheets_laws.proofs.Laws.{refused-answer, accepted-answer, row-status, row-value}
-use Rattle.table.specs.Table.{headerText, fieldText, fieldsText, rowText, tableText, refusedText, answerText, room, printedOf}
+use Rattle.table.specs.Table.{headerText, fieldText, fieldsText, rowText, tableText, answerText, room, printedOf}
 
 -- the k-th field of an answer: its status, then its values
 abbrev pub field : Answer (List ℕ) → ℕ → ℕ
@@ -25,10 +27,6 @@ Fits32 a = (k : ℕ) → k < 8 → field a k < 4294967296
 -- the line of query i with this answer
 unfoldable pub lineOf : ℕ → Answer (List ℕ) → List ℕ
 lineOf i a = decimalText i ++ joined (λ k. 32 ∷ decimalText (field a k)) 8 ++ (10 ∷ [])
-
-same-parts : (f g : ℕ → List ℕ) (n : ℕ) → ((k : ℕ) → k < n → f k ≡ g k) → joined f n ≡ joined g n
-same-parts f g zero h = refl
-same-parts f g (suc n) h = rw (same-parts f g n (λ k l. h k (omega arith)), h n (omega arith))
 
 module _ (s : List ℕ) where
   pub printed-refused : 0 < sheetStop s (length room) → printedOf s ≡ refusedText (sheetStop s (length room))
@@ -47,7 +45,7 @@ module _ (s : List ℕ) where
       unfolding rowText fieldsText lineOf
       one-line =
           let e =
-          same-parts (fieldText (sheetOf s room .bytes) (32 * i)) (λ k. 32 ∷ decimalText (field (answerAt s i) k)) 8
+          same-pieces (fieldText (sheetOf s room .bytes) (32 * i)) (λ k. 32 ∷ decimalText (field (answerAt s i) k)) 8
           (λ k h. unfold fieldText in ap (λ (n : ℕ). 32 ∷ decimalText n) (one-field k h)) in
           ap (λ (xs : List ℕ). decimalText i ++ xs ++ (10 ∷ [])) e
 
@@ -57,4 +55,4 @@ module _ (s : List ℕ) where
     printed-table fits =
         rw (accepted-answer s room ok)
         (ap (λ (xs : List ℕ). headerText ++ xs)
-        (same-parts (rowText (sheetOf s room .bytes)) (λ i. lineOf i (answerAt s i)) (queryCount s) (λ i l. one-line i l (fits i l))))
+        (same-pieces (rowText (sheetOf s room .bytes)) (λ i. lineOf i (answerAt s i)) (queryCount s) (λ i l. one-line i l (fits i l))))

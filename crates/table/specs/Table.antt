@@ -3,19 +3,16 @@
 use mathlib.Core.List.{List, [], _∷_, _++_}
 use Prim.Native.Nat.{ℕ, _+_, _*_}
 use lib.ListN.{replicate}
+use Rattle.lists.specs.Lists.{joined}
 use Rattle.little_endian.specs.Bytes.{u32At}
 use Rattle.score_state.specs.Answer.{Answer, worked, refused}
-use Rattle.text.specs.Text.{decimalText}
-use Rattle.sheets_laws.specs.Sheets.{joined, WorkedSheet, sheetOf}
+use Rattle.text.specs.Text.{decimalText, refusedText}
+use Rattle.sheets_laws.specs.Sheets.{WorkedSheet, sheetOf}
 
 -- "query status n320 n300 n200 n100 n50 misses tried", a line of 50 bytes
 unfoldable pub headerText : List ℕ
 headerText =
     113 ∷ 117 ∷ 101 ∷ 114 ∷ 121 ∷ 32 ∷ 115 ∷ 116 ∷ 97 ∷ 116 ∷ 117 ∷ 115 ∷ 32 ∷ 110 ∷ 51 ∷ 50 ∷ 48 ∷ 32 ∷ 110 ∷ 51 ∷ 48 ∷ 48 ∷ 32 ∷ 110 ∷ 50 ∷ 48 ∷ 48 ∷ 32 ∷ 110 ∷ 49 ∷ 48 ∷ 48 ∷ 32 ∷ 110 ∷ 53 ∷ 48 ∷ 32 ∷ 109 ∷ 105 ∷ 115 ∷ 115 ∷ 101 ∷ 115 ∷ 32 ∷ 116 ∷ 114 ∷ 105 ∷ 101 ∷ 100 ∷ 10 ∷ []
-
--- "refused ", 8 bytes
-unfoldable pub refusedWord : List ℕ
-refusedWord = 114 ∷ 101 ∷ 102 ∷ 117 ∷ 115 ∷ 101 ∷ 100 ∷ 32 ∷ []
 
 -- a space and the k-th number of the answer that starts at `from`
 unfoldable pub fieldText : List ℕ → ℕ → ℕ → List ℕ
@@ -31,9 +28,6 @@ rowText out i = decimalText i ++ fieldsText out (32 * i) ++ (10 ∷ [])
 
 unfoldable pub tableText : List ℕ → ℕ → List ℕ
 tableText out n = headerText ++ joined (rowText out) n
-
-unfoldable pub refusedText : ℕ → List ℕ
-refusedText n = refusedWord ++ decimalText n ++ (10 ∷ [])
 
 -- what is printed of an answer, with the output that goes with it
 unfoldable pub answerText : Answer ℕ → List ℕ → List ℕ

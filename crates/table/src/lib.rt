@@ -3,9 +3,9 @@ ghost use mathlib.Core.Path.{_≡_};
 ghost use Prim.Native.Nat.{_+_, _*_, _≤_, _<_};
 ghost use lib.ListN.{length, take, drop};
 ghost use Rattle.io.specs.Counts.{Counts};
+ghost use Rattle.lists.specs.Lists.{joined};
 ghost use Rattle.text.specs.Text.{Appended};
-ghost use Rattle.sheets_laws.specs.Sheets.{joined};
-ghost use Rattle.table.specs.Table.{fieldText, fieldsText, rowText, tableText, refusedText, printedOf};
+ghost use Rattle.table.specs.Table.{fieldText, fieldsText, rowText, tableText, printedOf};
 use sheets::SheetAnswer;
 
 // The longest table: a header, and 1,024 lines of an index of four digits, eight fields of a space and ten digits, and an end.
@@ -18,8 +18,7 @@ fn put_field(text: &mut [u8], at: usize, out: &[u8], from: usize, k: usize) -> u
     ensures { λ r. ⌜ Appended (now (text .entry)) at (now (text .exit)) r (fieldText (now (out .entry)) from k) ⌝ }
     ensures { λ r. ⌜ r ≤ at + 11 ⌝ }
 {
-    let next = text::put_byte(text, at, b' ');
-    text::put_decimal(text, next, little_endian::u32_at(out, from + 4 * k))
+    text::put_next(text, at, little_endian::u32_at(out, from + 4 * k))
 }
 
 // The eight fields of the answer that starts at `from`.
@@ -80,16 +79,6 @@ fn put_table(text: &mut [u8], out: &[u8], n: usize) -> usize
     put_rows(text, header_end, out, n)
 }
 
-// The line of a sheet that is refused by n.
-fn put_refused(text: &mut [u8], n: u32) -> usize
-    requires { ⌜ 19 ≤ length (now text) ⌝ }
-    ensures { λ r. ⌜ Appended (now (text .entry)) 0 (now (text .exit)) r (refusedText n) ⌝ }
-{
-    let word_end = text::put_bytes(text, 0, b"refused ");
-    let number_end = text::put_decimal(text, word_end, n);
-    text::put_byte(text, number_end, b'\n')
-}
-
 // Works a sheet and puts all that is printed of it at the start of text. It answers how many bytes that is; those past them stay.
 pub fn print_sheet(sheet: &[u8], text: &mut [u8; ROOM]) -> usize
     ensures counted { λ r. ⌜ Counts r (now (text .exit)) ⌝ }
@@ -99,6 +88,6 @@ pub fn print_sheet(sheet: &[u8], text: &mut [u8; ROOM]) -> usize
     let mut out = [0u8; 32768];
     match sheets::work_sheet(sheet, &mut out) {
         SheetAnswer::Worked(queries) => put_table(text, &out, queries as usize),
-        SheetAnswer::Refused(stop) => put_refused(text, stop),
+        SheetAnswer::Refused(stop) => text::put_refused(text, stop),
     }
 }

@@ -2,7 +2,7 @@
 ghost use mathlib.Core.List.{[], _∷_};
 ghost use Prim.Native.Nat.{_+_, _<_, _≤_};
 ghost use lib.ListN.{length};
-ghost use Rattle.text.specs.Text.{decimalText, signedText, Appended};
+ghost use Rattle.text.specs.Text.{decimalText, signedText, refusedText, Appended};
 
 pub fn put_byte(text: &mut [u8], at: usize, byte: u8) -> usize
     requires { ⌜ at + 1 ≤ length (now text) ⌝ }
@@ -36,6 +36,16 @@ pub fn put_decimal(text: &mut [u8], at: usize, n: u32) -> usize
     put_bytes(text, at, &digits[..k])
 }
 
+// A space and a number.
+pub fn put_next(text: &mut [u8], at: usize, n: u32) -> usize
+    requires { ⌜ at + 11 ≤ length (now text) ⌝ }
+    ensures { λ r. ⌜ Appended (now (text .entry)) at (now (text .exit)) r (32 ∷ decimalText n) ⌝ }
+    ensures { λ r. ⌜ r ≤ at + 11 ⌝ }
+{
+    let next = put_byte(text, at, b' ');
+    put_decimal(text, next, n)
+}
+
 // The signed number that a word of 32 bits stands for: at most ten digits and a minus sign.
 pub fn put_signed(text: &mut [u8], at: usize, word: u32) -> usize
     requires { ⌜ at + 11 ≤ length (now text) ⌝ }
@@ -48,4 +58,14 @@ pub fn put_signed(text: &mut [u8], at: usize, word: u32) -> usize
         let next = put_byte(text, at, b'-');
         put_decimal(text, next, 0xffff_ffff - word + 1)
     }
+}
+
+// The line of an input that is refused by n, at the start of text.
+pub fn put_refused(text: &mut [u8], n: u32) -> usize
+    requires { ⌜ 19 ≤ length (now text) ⌝ }
+    ensures { λ r. ⌜ Appended (now (text .entry)) 0 (now (text .exit)) r (refusedText n) ⌝ }
+{
+    let word_end = put_bytes(text, 0, b"refused ");
+    let number_end = put_decimal(text, word_end, n);
+    put_byte(text, number_end, b'\n')
 }

@@ -8,7 +8,8 @@
 //! `run [part ..]` builds and runs the parts that `PARTS` lists; all of them if none is named. `run
 //! parts` prints their names. Each but bench ends with a line
 //! `part: N inputs, D differences, S s`, and any difference ends the program with 1. `run list`
-//! writes the Rust's answers to a file instead (list.rs), and `run stored` the gate's stored sheets.
+//! writes the Rust's answers to a file instead (list.rs), `run stored` the gate's stored sheets, and
+//! `run stored_strides` its stored weights.
 //!
 //! Variables: SEED and COUNT (random inputs a part) for the inputs, NUQSILLAY_ROOT for the
 //! repository that holds this crate, ROSU_SRC for the folder with the original's src/, LIST_OUT for
@@ -28,11 +29,13 @@ mod nearest;
 mod ours;
 mod plain;
 mod plays;
+mod program;
 mod query;
 mod repo;
 mod sheet;
 mod sheet_inputs;
 mod sheets;
+mod stride_table;
 mod strides;
 mod tally;
 mod target;
@@ -43,13 +46,14 @@ include!(concat!(env!("OUT_DIR"), "/tree.rs"));
 /// The parts in their order, each with what runs it and says whether nothing differed.
 type Part = (&'static str, fn(&mut Rng) -> bool);
 
-const PARTS: [Part; 10] = [
+const PARTS: [Part; 11] = [
     ("accuracy", accuracy::run),
     ("target", target::run),
     ("ignore_acc", |rng| plain::run(Method::IgnoreAcc, rng)),
     ("fast", |rng| plain::run(Method::Fast, rng)),
     ("closest", closest::run),
     ("strides", strides::run),
+    ("stride_table", stride_table::run),
     ("nearest", nearest::run),
     ("generate", generate::run),
     ("sheets", sheets::run),
@@ -67,6 +71,7 @@ fn main() -> ExitCode {
     let written = match named.as_slice() {
         [one] if one == "list" => Some(list::write()),
         [one] if one == "stored" => Some(sheets::write_stored()),
+        [one] if one == "stored_strides" => Some(stride_table::write_stored()),
         _ => None,
     };
 
@@ -89,7 +94,7 @@ fn main() -> ExitCode {
 
     if let Some(unknown) = named.iter().find(|part| !names.contains(&part.as_str())) {
         eprintln!(
-            "beside: no part {unknown}; there are {}, list and stored",
+            "beside: no part {unknown}; there are {}, list, stored and stored_strides",
             names.join(", ")
         );
         return ExitCode::from(2);

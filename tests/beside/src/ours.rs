@@ -45,6 +45,21 @@ unsafe extern "C" {
         out_len: usize,
     ) -> u32;
 
+    fn nuqsillay_strides(
+        a320: u32,
+        a300: u32,
+        a200: u32,
+        a100: u32,
+        a50: u32,
+        b320: u32,
+        b300: u32,
+        b200: u32,
+        b100: u32,
+        b50: u32,
+        out: *mut u32,
+        out_len: usize,
+    ) -> u32;
+
     fn nuqsillay_work_sheet(
         sheet: *const u8,
         sheet_len: usize,
@@ -107,4 +122,30 @@ pub fn generate(q: &Query, out: &mut [u32]) -> u32 {
 pub fn work_sheet(sheet: &[u8], out: &mut [u8]) -> u32 {
     // SAFETY: the call reads and writes only inside the slices whose lengths it is told.
     unsafe { nuqsillay_work_sheet(sheet.as_ptr(), sheet.len(), out.as_mut_ptr(), out.len()) }
+}
+
+/// `sets` are two times five weights, from n320 to n50.
+pub fn strides(sets: &[[u32; 5]; 2], out: &mut [u32]) -> u32 {
+    let [
+        [a320, a300, a200, a100, a50],
+        [b320, b300, b200, b100, b50],
+    ] = *sets;
+
+    // SAFETY: the call writes only inside the slice whose length it is told.
+    unsafe {
+        nuqsillay_strides(
+            a320,
+            a300,
+            a200,
+            a100,
+            a50,
+            b320,
+            b300,
+            b200,
+            b100,
+            b50,
+            out.as_mut_ptr(),
+            out.len(),
+        )
+    }
 }

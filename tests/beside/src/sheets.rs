@@ -1,17 +1,12 @@
 //! Part sheets: the library's sheet call, and for a sample of the sheets the program `sheet`,
 //! beside document 01's reading of a sheet over the Rust's generators, byte for byte.
 
-use std::{
-    env, fs,
-    io::{self, Write},
-    path::{Path, PathBuf},
-    process::{Command, Output, Stdio},
-    thread,
-};
+use std::io;
 
 use crate::{
     inputs::{Rng, Size},
     ours,
+    program::{self, Program, hex},
     query::Answer,
     sheet::{self, ANSWER},
     sheet_inputs,
@@ -36,9 +31,8 @@ const EXAMPLE: &str = "query status n320 n300 n200 n100 n50 misses tried
 struct Part<'a> {
     tally: Tally,
     rng: &'a mut Rng,
-    program: PathBuf,
+    program: Program,
     rows: usize,
-    programs: u64,
 }
 
 impl Part<'_> {
@@ -101,37 +95,9 @@ impl Part<'_> {
 
     /// Compares what the program prints.
     fn run(&mut self, bytes: &[u8]) {
-        self.programs += 1;
         let right = text(&sheet::answers(&bytes[..bytes.len().min(READ)]));
-        let ours = run_program(&self.program, bytes);
-
-        let same = ours.as_ref().is_ok_and(|ours| {
-            ours.status.success() && ours.stderr.is_empty() && ours.stdout == right.as_bytes()
-        });
-
-        self.tally.judge(same, || {
-            let program = self.program.display();
-            match ours {
-                Ok(ours) => format!("{program}: {ours:?}, expected {right:?}; {}", hex(bytes)),
-                Err(e) => format!("{program}: {e}"),
-            }
-        });
+        self.program.compare(&mut self.tally, bytes, &right);
     }
-}
-
-fn run_program(program: &Path, input: &[u8]) -> io::Result<Output> {
-    let mut child = Command::new(program)
-        .stdin(Stdio::piped())
-        .stdout(Stdio::piped())
-        .stderr(Stdio::piped())
-        .spawn()?;
-    let mut stdin = child.stdin.take().unwrap();
-
-    thread::scope(|scope| {
-        // The program may end before it has read everything.
-        scope.spawn(move || stdin.write_all(input).ok());
-        child.wait_with_output()
-    })
 }
 
 /// What the program prints.
@@ -151,44 +117,19 @@ fn text(answers: &Result<Vec<Answer>, u32>) -> String {
     text
 }
 
-/// The sheet's first bytes.
-fn hex(bytes: &[u8]) -> String {
-    let shown: String = bytes.iter().take(400).map(|b| format!("{b:02x}")).collect();
-    format!("a sheet of {} bytes {shown}", bytes.len())
-}
-
-/// Writes the gate's stored sheets, and what is to be printed of them, to data/ and stdout of the
-/// folder LIST_OUT. The last line is of a folder, which cannot be read.
+/// The gate's stored sheets.
 pub fn write_stored() -> io::Result<()> {
-    let folder = env::var_os("LIST_OUT").ok_or_else(|| io::Error::other("LIST_OUT is not set"))?;
-    let folder = PathBuf::from(folder);
-    let mut printed = String::new();
-
-    fs::create_dir_all(folder.join("data"))?;
-
-    for (name, bytes) in sheet_inputs::stored() {
-        let (read, left) = bytes.split_at(bytes.len().min(READ));
-        printed += &format!("{name}\n{}", text(&sheet::answers(read)));
-
-        if !left.is_empty() {
-            printed += &format!("{} not read\n", left.len());
-        }
-
-        fs::write(folder.join("data").join(name), &bytes)?;
-    }
-
-    printed += ".\nfailed\n";
-    fs::write(folder.join("stdout"), printed)
+    program::write_stored(sheet_inputs::stored(), READ, |read| {
+        text(&sheet::answers(read))
+    })
 }
 
 pub fn run(rng: &mut Rng) -> bool {
-    let root = env::var_os("NUQSILLAY_ROOT").unwrap_or_default();
     let mut part = Part {
         tally: Tally::new("sheets"),
         rng,
-        program: PathBuf::from(root).join("target/bin/sheet"),
+        program: Program::new("sheet"),
         rows: 0,
-        programs: 0,
     };
 
     let example = sheet_inputs::example();
@@ -207,7 +148,7 @@ pub fn run(rng: &mut Rng) -> bool {
 
     println!(
         "sheets: {} rows worked, {} sheets through the program",
-        part.rows, part.programs
+        part.rows, part.program.runs
     );
     part.tally.finish()
 }

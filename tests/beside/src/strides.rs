@@ -15,32 +15,43 @@ const PLACES: [(&str, &str); 2] = [
     ("specs/Strides.antt", "strideTable ="),
 ];
 
+/// The places whose counts these presence bits leave out.
+fn missing(bits: usize) -> Vec<usize> {
+    (0..5).filter(|place| bits & 1 << place == 0).collect()
+}
+
+/// The formula's strides: q at each middle and 1 elsewhere; n300 is folded away where it weighs what
+/// n320 does and both are missing.
+pub fn formula(weights: [i64; 5], bits: usize) -> [i64; 5] {
+    let mut walked = missing(bits);
+    let mut strides = [1; 5];
+
+    if walked.starts_with(&[0, 1]) && weights[0] == weights[1] {
+        walked.remove(1);
+    }
+
+    if let [first, middles @ .., last] = walked.as_slice() {
+        for middle in middles {
+            strides[*middle] = nearest::stride(weights[*first], weights[*middle], weights[*last]);
+        }
+    }
+
+    strides
+}
+
 /// What the line of a row says: five strides, the row's number, the missing weights. A weight that
 /// is folded away is still missing from the query.
 fn row(number: usize) -> Vec<i64> {
     let q = Query {
         classic: number >= 32,
-        presence: (number % 32) as u8,
         ..Query::default()
     };
-    let missing: Vec<usize> = (0..5).filter(|place| q.given()[*place].is_none()).collect();
     let weights = q.weights().map(i64::from);
-    let folds = q.classic && missing.starts_with(&[0, 1]);
-    let walked: Vec<usize> = missing
-        .iter()
-        .copied()
-        .filter(|place| !(folds && *place == 1))
-        .collect();
-    let mut said = vec![1; 5];
-
-    if let [first, middles @ .., last] = walked.as_slice() {
-        for middle in middles {
-            said[*middle] = nearest::stride(weights[*first], weights[*middle], weights[*last]);
-        }
-    }
+    let bits = number % 32;
+    let mut said = formula(weights, bits).to_vec();
 
     said.push(number as i64);
-    said.extend(missing.iter().map(|place| weights[*place]));
+    said.extend(missing(bits).iter().map(|place| weights[*place]));
     said
 }
 

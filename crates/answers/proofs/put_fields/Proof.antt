@@ -5,8 +5,9 @@ use mathlib.Core.Path.{_≡_, refl}
 use lib.ListN.{length}
 use native.Mathlib.Omega.{arith}
 use borrow.Author.Needs.{needs}
-use Rattle.little_endian.proofs.Put.{next}
-use Rattle.little_endian.specs.Bytes.{bytes4, put}
+use Rattle.lists.specs.Lists.{put}
+use Rattle.lists.proofs.Put.{next}
+use Rattle.little_endian.specs.Bytes.{bytes4}
 use Rattle.answers.proofs.put_fields.Statement.{statement}
 use Rattle.answers.proofs.put_fields.Tie as tie
 use Rattle.answers.specs.Answers.{fieldBytes}

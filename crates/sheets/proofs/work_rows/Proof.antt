@@ -3,7 +3,7 @@ use Prim.Native.Nat.{_-_, _≤_}
 use mathlib.Core.Path.{_≡_, refl}
 use lib.ListN.{length, take}
 use native.Mathlib.Omega.{arith}
-use Rattle.sheets_laws.proofs.Joined.{written-none, written-step}
+use Rattle.sheets_laws.proofs.Written.{written-none, written-step}
 use Rattle.sheets.proofs.work_rows.Statement.{statement}
 use Rattle.sheets.proofs.work_rows.Tie as tie
 use Rattle.sheets_laws.specs.Sheets.{rowsWritten}

@@ -1,9 +1,9 @@
 -- `table::print_sheet` meets its contract. Assumes nothing.
 use native.Mathlib.Omega.{arith}
 use Rattle.sheets.proofs.Laws.{queries-fit}
-use Rattle.text.proofs.Appended.{restated}
+use Rattle.text.proofs.Appended.{restated, counted, front, beyond}
 use Rattle.table.specs.Table.{answerText, room}
-use Rattle.table.proofs.Printed.{counted, front, beyond, by-case}
+use Rattle.table.proofs.Printed.{by-case}
 use borrow.Author.Needs.{needs}
 use Rattle.table.proofs.print_sheet.Statement.{statement}
 use Rattle.table.proofs.print_sheet.Tie as tie
