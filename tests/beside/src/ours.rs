@@ -126,10 +126,7 @@ pub fn work_sheet(sheet: &[u8], out: &mut [u8]) -> u32 {
 
 /// `sets` are two times five weights, from n320 to n50.
 pub fn strides(sets: &[[u32; 5]; 2], out: &mut [u32]) -> u32 {
-    let [
-        [a320, a300, a200, a100, a50],
-        [b320, b300, b200, b100, b50],
-    ] = *sets;
+    let [[a320, a300, a200, a100, a50], [b320, b300, b200, b100, b50]] = *sets;
 
     // SAFETY: the call writes only inside the slice whose length it is told.
     unsafe {

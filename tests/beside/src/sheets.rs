@@ -10,7 +10,7 @@ use crate::{
     query::Answer,
     sheet::{self, ANSWER},
     sheet_inputs,
-    tally::Tally,
+    tally::{Tally, first_wrong},
 };
 
 /// What stands in lent memory before a call.
@@ -81,13 +81,9 @@ impl Part<'_> {
         let ours = ours::work_sheet(&shifted[shift..], &mut memory[start..start + len]);
 
         self.tally.judge(ours == status && memory == right, || {
-            let place = memory
-                .iter()
-                .zip(&right)
-                .position(|(ours, right)| ours != right);
             format!(
                 "an output of {len}: ours {ours}, expected {status}; first wrong byte {:?}; {}",
-                place.map(|at| at as isize - start as isize),
+                first_wrong(&memory, &right, start),
                 hex(bytes)
             )
         });

@@ -9,7 +9,7 @@ use crate::{
     ours,
     program::{self, Program},
     strides,
-    tally::Tally,
+    tally::{Tally, first_wrong},
 };
 
 /// Five weights, from n320 to n50.
@@ -103,13 +103,9 @@ impl Part<'_> {
             let ours = ours::strides(sets, &mut memory[AROUND..AROUND + len]);
 
             self.tally.judge(ours == status && memory == right, || {
-                let place = memory
-                    .iter()
-                    .zip(&right)
-                    .position(|(ours, right)| ours != right);
                 format!(
                     "{sets:?}, a buffer of {len}: ours {ours}, expected {status}; first wrong number {:?}",
-                    place.map(|at| at as isize - AROUND as isize)
+                    first_wrong(&memory, &right, AROUND)
                 )
             });
         }

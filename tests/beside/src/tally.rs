@@ -16,6 +16,12 @@ const PLACES: usize = 12;
 /// How many differences are told.
 const TOLD: u64 = 5;
 
+/// Where the memory first differs, counted from the start of the output in it.
+pub fn first_wrong<T: PartialEq>(memory: &[T], right: &[T], start: usize) -> Option<isize> {
+    let place = memory.iter().zip(right).position(|(x, y)| x != y)?;
+    Some(place as isize - start as isize)
+}
+
 pub struct Tally {
     part: &'static str,
     pub inputs: u64,

@@ -10,9 +10,6 @@ use Rattle.stride_table.proofs.Table.{bad-weights, short-buffer, filled
 use Rattle.stride_table.proofs.fill_strides.Statement.{statement}
 use Rattle.stride_table.proofs.fill_strides.Tie as tie
 
-is-weighting-requires : tie.Need-is-weighting-requires
-is-weighting-requires c κs = search needs
-
 returns : tie.Need-returns
 returns c =
     let x = c .before .before .before .args in
@@ -20,9 +17,6 @@ returns c =
     let vs = weightsOf (x .second) in
     let bad = sym (c .before .is-weighting .ensures) ∙ not-true _ (c .if1 .taken) in
     refused-by ws vs (x .out .now) 18 (omega arith) (bad-weights ws vs _ (λ h. true≢false (sym (weighed ws (h .0)) ∙ bad)))
-
-is-weighting-requires-2 : tie.Need-is-weighting-requires-2
-is-weighting-requires-2 c κs = search needs
 
 returns-2 : tie.Need-returns-2
 returns-2 c =
@@ -41,12 +35,6 @@ returns-3 c =
     let v = weighting vs (sym (c .before .before .is-weighting2 .ensures) ∙ not-false _ (c .before .if2 .left)) in
     refused-by ws vs (x .out .now) 5 (omega arith) (short-buffer ws vs _ w v (omega arith))
 
-put-rows-requires : tie.Need-put-rows-requires
-put-rows-requires c κs = search needs
-
-same-length : tie.Need-same-length
-same-length c = search needs
-
 returns-4 : tie.Need-returns-4
 returns-4 c =
     let x = c .before .before .before .before .before .before .before .before .before .before .args in
@@ -60,11 +48,11 @@ pub fill-strides-spec : {M : Type 1} → statement M
 fill-strides-spec =
     tie.close
     (tie.spec
-    is-weighting-requires
+    (λ c κs. search needs)
     returns
-    is-weighting-requires-2
+    (λ c κs. search needs)
     returns-2
     returns-3
-    put-rows-requires
-    same-length
+    (λ c κs. search needs)
+    (λ c. search needs)
     returns-4)

@@ -11,66 +11,6 @@ use Rattle.lists.proofs.Five.{five-whole}
 use Rattle.stride_table.proofs.put_row.Statement.{statement}
 use Rattle.stride_table.proofs.put_row.Tie as tie
 
-array-read-out : tie.Need-array-read-out
-array-read-out c = search needs
-
-mul-out : tie.Need-mul-out
-mul-out c = search needs
-
-slice-write-out : tie.Need-slice-write-out
-slice-write-out c = search needs
-
-array-read-out-2 : tie.Need-array-read-out-2
-array-read-out-2 c = search needs
-
-add-out : tie.Need-add-out
-add-out c = search needs
-
-mul-out-2 : tie.Need-mul-out-2
-mul-out-2 c = search needs
-
-slice-write-out-2 : tie.Need-slice-write-out-2
-slice-write-out-2 c = simp length-set (omega arith)
-
-array-read-out-3 : tie.Need-array-read-out-3
-array-read-out-3 c = search needs
-
-add-out-2 : tie.Need-add-out-2
-add-out-2 c = search needs
-
-mul-out-3 : tie.Need-mul-out-3
-mul-out-3 c = search needs
-
-slice-write-out-3 : tie.Need-slice-write-out-3
-slice-write-out-3 c = simp length-set (omega arith)
-
-array-read-out-4 : tie.Need-array-read-out-4
-array-read-out-4 c = search needs
-
-add-out-3 : tie.Need-add-out-3
-add-out-3 c = search needs
-
-mul-out-4 : tie.Need-mul-out-4
-mul-out-4 c = search needs
-
-slice-write-out-4 : tie.Need-slice-write-out-4
-slice-write-out-4 c = simp length-set (omega arith)
-
-array-read-out-5 : tie.Need-array-read-out-5
-array-read-out-5 c = search needs
-
-add-out-4 : tie.Need-add-out-4
-add-out-4 c = search needs
-
-mul-out-5 : tie.Need-mul-out-5
-mul-out-5 c = search needs
-
-slice-write-out-5 : tie.Need-slice-write-out-5
-slice-write-out-5 c = simp length-set (omega arith)
-
-same-length : tie.Need-same-length
-same-length c = search needs
-
 returns : tie.Need-returns
 unfolding put
 returns c =
@@ -87,24 +27,24 @@ pub put-row-spec : {M : Type 1} → statement M
 put-row-spec =
     tie.close
     (tie.spec
-    array-read-out
-    mul-out
-    slice-write-out
-    array-read-out-2
-    add-out
-    mul-out-2
-    slice-write-out-2
-    array-read-out-3
-    add-out-2
-    mul-out-3
-    slice-write-out-3
-    array-read-out-4
-    add-out-3
-    mul-out-4
-    slice-write-out-4
-    array-read-out-5
-    add-out-4
-    mul-out-5
-    slice-write-out-5
-    same-length
+    (λ c. search needs)
+    (λ c. search needs)
+    (λ c. search needs)
+    (λ c. search needs)
+    (λ c. search needs)
+    (λ c. search needs)
+    (λ c. simp length-set (omega arith))
+    (λ c. search needs)
+    (λ c. search needs)
+    (λ c. search needs)
+    (λ c. simp length-set (omega arith))
+    (λ c. search needs)
+    (λ c. search needs)
+    (λ c. search needs)
+    (λ c. simp length-set (omega arith))
+    (λ c. search needs)
+    (λ c. search needs)
+    (λ c. search needs)
+    (λ c. simp length-set (omega arith))
+    (λ c. search needs)
     returns)

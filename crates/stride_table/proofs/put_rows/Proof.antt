@@ -23,24 +23,6 @@ abbrev μ-loop : tie.MeasureT-loop
 loop-holds : tie.Need-loop-holds Inv-loop μ-loop
 loop-holds c = (omega arith, refl, refl)
 
-cast-put-row : tie.Need-cast-put-row Inv-loop μ-loop
-cast-put-row c = search needs
-
-mul-put-row : tie.Need-mul-put-row Inv-loop μ-loop
-mul-put-row c = search needs
-
-row-of-requires : tie.Need-row-of-requires Inv-loop μ-loop
-row-of-requires c κs = omega arith
-
-put-row-requires : tie.Need-put-row-requires Inv-loop μ-loop
-put-row-requires c κs = omega arith
-
-add-r : tie.Need-add-r Inv-loop μ-loop
-add-r c = omega arith
-
-loop-less : tie.Need-loop-less Inv-loop μ-loop
-loop-less c = omega arith
-
 loop-again : tie.Need-loop-again Inv-loop μ-loop
 loop-again c =
     let x = c .before .before .before .before .before .before .before .before .args in
@@ -49,9 +31,6 @@ loop-again c =
     let step : c .before .before .put-row .last .0 ≡ joined f (l .r + 1) ++ drop (5 * (l .r + 1)) (x .out .now) =
     c .before .before .put-row .ensures ∙ rw (c .before .before .before .row-of .ensures, l .inv .2) (next-piece 5 f (row-long (x .first) (x .second)) (x .out .now) (l .r)) in
     (omega arith, omega arith, step)
-
-same-length : tie.Need-same-length Inv-loop μ-loop
-same-length c = omega arith
 
 returns : tie.Need-returns Inv-loop μ-loop
 unfolding tableOf
@@ -67,12 +46,12 @@ put-rows-spec =
     Inv-loop
     μ-loop
     loop-holds
-    cast-put-row
-    mul-put-row
-    row-of-requires
-    put-row-requires
-    add-r
-    loop-less
+    (λ c. search needs)
+    (λ c. search needs)
+    (λ c κs. omega arith)
+    (λ c κs. omega arith)
+    (λ c. omega arith)
+    (λ c. omega arith)
     loop-again
-    same-length
+    (λ c. omega arith)
     returns)

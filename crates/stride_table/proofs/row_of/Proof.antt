@@ -7,12 +7,6 @@ use borrow.Author.Needs.{needs}
 use Rattle.stride_table.proofs.row_of.Statement.{statement}
 use Rattle.stride_table.proofs.row_of.Tie as tie
 
-by-formula-requires : tie.Need-by-formula-requires
-by-formula-requires c κs = search needs
-
-by-formula-requires-2 : tie.Need-by-formula-requires-2
-by-formula-requires-2 c κs = search needs
-
 returns : tie.Need-returns
 returns c =
     let r = c .before .before .args .r in
@@ -26,4 +20,4 @@ returns-2 c =
     rw (le-ltb r 32 (omega arith), e) (c .by-formula2 .ensures)
 
 pub row-of-spec : {M : Type 1} → statement M
-row-of-spec = tie.close (tie.spec by-formula-requires by-formula-requires-2 returns returns-2)
+row-of-spec = tie.close (tie.spec (λ c κs. search needs) (λ c κs. search needs) returns returns-2)

@@ -7,28 +7,10 @@ use Rattle.stride_text.proofs.Printed.{other-length, bad-weights, good-
 use Rattle.stride_text.proofs.print_strides.Statement.{statement}
 use Rattle.stride_text.proofs.print_strides.Tie as tie
 
-put-refused-requires : tie.Need-put-refused-requires
-put-refused-requires c κs = search needs
-
 returns : tie.Need-returns
 returns c =
     let p = restated (c .put-refused .ensures) (other-length (c .before .before .before .before .args .weights .now) (c .before .before .if1 .taken)) in
     (counted p, (front p, beyond p))
-
-read-weights-requires : tie.Need-read-weights-requires
-read-weights-requires c κs = search needs
-
-read-weights-requires-2 : tie.Need-read-weights-requires-2
-read-weights-requires-2 c κs = search needs
-
-slice-aggregate-fill-strides : tie.Need-slice-aggregate-fill-strides
-slice-aggregate-fill-strides c = search needs
-
-fill-strides-requires : tie.Need-fill-strides-requires
-fill-strides-requires c κs = search needs
-
-put-refused-requires-2 : tie.Need-put-refused-requires-2
-put-refused-requires-2 c κs = search needs
 
 returns-2 : tie.Need-returns-2
 returns-2 c =
@@ -38,12 +20,6 @@ returns-2 c =
     let n = c .before .before .before .before .fill-strides in
     let p = restated (c .put-refused2 .ensures) (bad-weights s (c .before .before .before .before .before .before .before .before .if1 .left) (w .result) (v .result) (replicate 320 0) (n .result) (w .ensures) (v .ensures) refl (n .ensures .0) (c .before .before .if2 .taken)) in
     (counted p, (front p, beyond p))
-
-slice-aggregate-put-lines : tie.Need-slice-aggregate-put-lines
-slice-aggregate-put-lines c = search needs
-
-put-lines-requires : tie.Need-put-lines-requires
-put-lines-requires c κs = search needs
 
 returns-3 : tie.Need-returns-3
 returns-3 c =
@@ -58,14 +34,14 @@ pub print-strides-spec : {M : Type 1} → statement M
 print-strides-spec =
     tie.close
     (tie.spec
-    put-refused-requires
+    (λ c κs. search needs)
     returns
-    read-weights-requires
-    read-weights-requires-2
-    slice-aggregate-fill-strides
-    fill-strides-requires
-    put-refused-requires-2
+    (λ c κs. search needs)
+    (λ c κs. search needs)
+    (λ c. search needs)
+    (λ c κs. search needs)
+    (λ c κs. search needs)
     returns-2
-    slice-aggregate-put-lines
-    put-lines-requires
+    (λ c. search needs)
+    (λ c κs. search needs)
     returns-3)

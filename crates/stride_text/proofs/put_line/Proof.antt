@@ -18,31 +18,10 @@ Inv-loop text₀ at numbers end₀ k₀ text end k = (1 ≤ k) × (k ≤ length 
 abbrev μ-loop : tie.MeasureT-loop
 μ-loop text₀ at numbers end₀ k₀ text end k = length numbers - k
 
-shared-slice-read-put-decimal : tie.Need-shared-slice-read-put-decimal Inv-loop μ-loop
-shared-slice-read-put-decimal c = omega arith
-
-put-decimal-requires : tie.Need-put-decimal-requires Inv-loop μ-loop
-put-decimal-requires c κs = omega arith
-
 loop-holds : tie.Need-loop-holds Inv-loop μ-loop
 loop-holds c =
     let first = c .before .before .put-decimal in
     (omega arith, omega arith, refl, omega arith, nothing (first .last .0) (first .result))
-
-mul-put-next : tie.Need-mul-put-next Inv-loop μ-loop
-mul-put-next c = search needs
-
-shared-slice-read-put-next : tie.Need-shared-slice-read-put-next Inv-loop μ-loop
-shared-slice-read-put-next c = omega arith
-
-put-next-requires : tie.Need-put-next-requires Inv-loop μ-loop
-put-next-requires c κs = omega arith
-
-add-k : tie.Need-add-k Inv-loop μ-loop
-add-k c = search needs
-
-loop-less : tie.Need-loop-less Inv-loop μ-loop
-loop-less c = omega arith
 
 loop-again : tie.Need-loop-again Inv-loop μ-loop
 loop-again c =
@@ -54,12 +33,6 @@ loop-again c =
     let number : Appended (l .text) (l .end) (p .last .0) (p .result) (more numbers (l .k - 1)) =
     restated (p .ensures .0) (ap (λ j. 32 ∷ decimalText (getD numbers j 0)) e) in
     (omega arith, omega arith, omega arith, omega arith, rw e′ (next-piece (more numbers) (l .k - 1) (l .inv .4) number (omega arith)))
-
-put-byte-requires : tie.Need-put-byte-requires Inv-loop μ-loop
-put-byte-requires c κs = omega arith
-
-same-length : tie.Need-same-length Inv-loop μ-loop
-same-length c = omega arith
 
 returns : tie.Need-returns Inv-loop μ-loop
 returns c =
@@ -75,15 +48,15 @@ put-line-spec =
     (tie.spec
     Inv-loop
     μ-loop
-    shared-slice-read-put-decimal
-    put-decimal-requires
+    (λ c. omega arith)
+    (λ c κs. omega arith)
     loop-holds
-    mul-put-next
-    shared-slice-read-put-next
-    put-next-requires
-    add-k
-    loop-less
+    (λ c. search needs)
+    (λ c. omega arith)
+    (λ c κs. omega arith)
+    (λ c. search needs)
+    (λ c. omega arith)
     loop-again
-    put-byte-requires
-    same-length
+    (λ c κs. omega arith)
+    (λ c. omega arith)
     returns)

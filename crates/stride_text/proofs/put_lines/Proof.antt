@@ -19,36 +19,12 @@ abbrev μ-loop : tie.MeasureT-loop
 loop-holds : tie.Need-loop-holds Inv-loop μ-loop
 loop-holds c = (omega arith, refl, omega arith, nothing _ 0)
 
-mul-from : tie.Need-mul-from Inv-loop μ-loop
-mul-from c = omega arith
-
-add-put-line : tie.Need-add-put-line Inv-loop μ-loop
-add-put-line c = omega arith
-
-mul-put-line : tie.Need-mul-put-line Inv-loop μ-loop
-mul-put-line c = omega arith
-
-sub-put-line : tie.Need-sub-put-line Inv-loop μ-loop
-sub-put-line c = omega arith
-
-part-put-line-start : tie.Need-part-put-line-start Inv-loop μ-loop
-part-put-line-start c = omega arith
-
-part-put-line-end : tie.Need-part-put-line-end Inv-loop μ-loop
-part-put-line-end c = omega arith
-
 put-line-requires : tie.Need-put-line-requires Inv-loop μ-loop
 put-line-requires c κs =
     let i = c .before .before .before .loop .i in
     let table = c .before .before .before .before .before .before .args .table .now in
     let n : length (take (5 * i + 5 - 5 * i) (drop (5 * i) table)) ≡ 5 = simp (length-take, length-drop) (omega arith) in
     (omega arith, omega arith)
-
-add-i : tie.Need-add-i Inv-loop μ-loop
-add-i c = omega arith
-
-loop-less : tie.Need-loop-less Inv-loop μ-loop
-loop-less c = omega arith
 
 loop-again : tie.Need-loop-again Inv-loop μ-loop
 unfolding tableLine
@@ -59,9 +35,6 @@ loop-again c =
     let n : length (take (5 * i + 5 - 5 * i) (drop (5 * i) table)) ≡ 5 = simp (length-take, length-drop) (omega arith) in
     let one = restated (c .before .before .put-line .ensures .0) (ap (λ m. lineText (take m (drop (5 * i) table))) e) in
     (omega arith, omega arith, omega arith, next-piece (tableLine table) i (c .before .before .before .before .before .before .loop .inv .3) one (omega arith))
-
-same-length : tie.Need-same-length Inv-loop μ-loop
-same-length c = omega arith
 
 returns : tie.Need-returns Inv-loop μ-loop
 unfolding tableText
@@ -77,15 +50,15 @@ put-lines-spec =
     Inv-loop
     μ-loop
     loop-holds
-    mul-from
-    add-put-line
-    mul-put-line
-    sub-put-line
-    part-put-line-start
-    part-put-line-end
+    (λ c. omega arith)
+    (λ c. omega arith)
+    (λ c. omega arith)
+    (λ c. omega arith)
+    (λ c. omega arith)
+    (λ c. omega arith)
     put-line-requires
-    add-i
-    loop-less
+    (λ c. omega arith)
+    (λ c. omega arith)
     loop-again
-    same-length
+    (λ c. omega arith)
     returns)
