@@ -88,10 +88,10 @@ uint32_t nuqsillay_generate(uint32_t n_objects, uint32_t n_hold_notes, uint8_t m
  *   8 n320, 12 n300, 16 n200, 20 n100, 24 n50, 28 misses, 32 passed, each u32, 36 acc f64; a missing field is all zero bytes. */
 uint32_t nuqsillay_work_sheet(const uint8_t *sheet, size_t sheet_len, uint8_t *out, size_t out_len);
 
-/* The strides of Nearest's walk under any two weightings, a and b, each from n320 to n50. out, of at least 320 numbers: 64 rows of five, from
- * n320 to n50; rows 0 to 31 are a's, one for each value of presence's five lowest bits, rows 32 to 63 b's. A stride is q at a middle and
- * 1 elsewhere; where the first two weights are equal and both missing, n300 counts as given. Numbers past the 320th stay.
- * Refused by 18, 5, in that order. */
+/* The strides of Nearest's walk under two weightings, a and b, each from n320 to n50. out, of at least 320 numbers: 64 rows of
+ * five, from n320 to n50. Rows 0 to 31 are a's, one for each value of presence's five lowest bits, rows 32 to 63 b's. A stride
+ * is q at a middle and 1 elsewhere; where a weighting's first two are equal and both missing, n300 counts as given. Numbers
+ * past the 320th stay. Refused by 18, 5, in that order. */
 uint32_t nuqsillay_strides(uint32_t a320, uint32_t a300, uint32_t a200, uint32_t a100, uint32_t a50, uint32_t b320,
                            uint32_t b300, uint32_t b200, uint32_t b100, uint32_t b50, uint32_t *out, size_t out_len);
 

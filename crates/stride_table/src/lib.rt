@@ -1,8 +1,9 @@
 // Document 02, L6: the stride table of any two weightings, worked out.
 ghost use mathlib.Core.Path.{_≡_};
-ghost use mathlib.Core.Bool.{true, false};
+ghost use mathlib.Core.Bool.{true, false, cond};
 ghost use mathlib.Core.List.{_++_};
-ghost use Prim.Native.Nat.{_+_, _<_, _≤_};
+ghost use Prim.Native.Nat.{_+_, _≤_};
+ghost use lib.Dec.{ltb};
 ghost use lib.ListN.{length, take, drop};
 ghost use Rattle.lists.specs.Lists.{put};
 ghost use Rattle.score_state.specs.Points.{weightsOf, standard};
@@ -10,16 +11,18 @@ ghost use Rattle.stride_rows.specs.Strides.{rowRule};
 ghost use Rattle.stride_table.specs.StrideTable.{tableOf, standardTable, tableStatus, tableOut};
 use score_state::Weights;
 
+// The set of row r.
+fn set_of(first: Weights, second: Weights, r: u8) -> Weights
+    ensures { λ w. ⌜ weightsOf w ≡ cond (ltb r 32) (weightsOf first) (weightsOf second) ⌝ }
+{
+    if r < 32 { first } else { second }
+}
+
 // Row r of the table.
 fn row_of(first: Weights, second: Weights, r: u8) -> [u32; 5]
-    requires { ⌜ r < 64 ⌝ }
     ensures { λ row. ⌜ row ≡ rowRule (weightsOf first) (weightsOf second) r ⌝ }
 {
-    if r < 32 {
-        plan::by_formula(first, r)
-    } else {
-        plan::by_formula(second, r - 32)
-    }
+    plan::by_formula(set_of(first, second, r), r % 32)
 }
 
 // A row's five numbers in place of those that stood there.
