@@ -1,19 +1,14 @@
--- Laws of `put`: its length, and two puts side by side.
+-- Two puts side by side are one.
 -- Assumes nothing.
 use mathlib.Core.Path.{_≡_, ap, _∙_, subst}
 use mathlib.Core.List.{List, _++_, append-assoc}
 use Prim.Native.Nat.{ℕ, _+_, _≤_}
 use native.Mathlib.Omega.{arith}
-use lib.ListN.{length, take, drop, length-append, length-take, length-drop}
+use lib.ListN.{length, take, drop, length-append}
 use lib.Seq.{take-at, drop-append-add, drop-drop, length-take-le}
 use Rattle.lists.specs.Lists.{put}
 
-pub length-put : (s : List ℕ) (i : ℕ) (vs : List ℕ) → i + length vs ≤ length s → length (put s i vs) ≡ length s
-unfolding put
-length-put s i vs h = simp (length-append, length-take, length-drop) (omega arith)
-
--- two puts side by side are one
-pub put-put : (s : List ℕ) (i : ℕ) (vs ws : List ℕ) → i + length vs + length ws ≤ length s → put (put s i vs) (i + length vs) ws ≡ put s i (vs ++ ws)
+put-put : (s : List ℕ) (i : ℕ) (vs ws : List ℕ) → i + length vs + length ws ≤ length s → put (put s i vs) (i + length vs) ws ≡ put s i (vs ++ ws)
 unfolding put
 put-put s i vs ws h =
     let front : List ℕ = take i s ++ vs in

@@ -10,6 +10,12 @@ use Rattle.nearest_laws.specs.Nearest.{Weighting, weighs}
 use Rattle.nearest_laws.proofs.Near.{both-true}
 use Rattle.nearest_laws.proofs.Nearest.{and-true}
 
+pub weighed : (ws : List ℕ) → Weighting ws → weighs ws ≡ true
+unfolding weighs
+weighed ws w =
+    rw (w .five)
+    (rw (le-leb (w .n320) 100 (w .most), le-leb (w .n300) (w .n320) (w .perfect), lt-ltb (w .n200) (w .n300) (w .great), lt-ltb (w .n100) (w .n200) (w .good), lt-ltb (w .n50) (w .n100) (w .ok), le-leb 1 (w .n50) (w .meh)))
+
 -- five weights that pass
 passed : (a b c d e : ℕ) → weighs (a ∷ b ∷ c ∷ d ∷ e ∷ []) ≡ true → Weighting (a ∷ b ∷ c ∷ d ∷ e ∷ [])
 unfolding weighs
@@ -46,12 +52,6 @@ weighting (a ∷ (b ∷ (c ∷ []))) h = absurd (true≢false (sym h))
 weighting (a ∷ (b ∷ (c ∷ (d ∷ [])))) h = absurd (true≢false (sym h))
 weighting (a ∷ (b ∷ (c ∷ (d ∷ (e ∷ []))))) h = passed a b c d e h
 weighting (a ∷ (b ∷ (c ∷ (d ∷ (e ∷ (f ∷ ws)))))) h = absurd (true≢false (sym h))
-
-pub weighed : (ws : List ℕ) → Weighting ws → weighs ws ≡ true
-unfolding weighs
-weighed ws w =
-    rw (w .five)
-    (rw (le-leb (w .n320) 100 (w .most), le-leb (w .n300) (w .n320) (w .perfect), lt-ltb (w .n200) (w .n300) (w .great), lt-ltb (w .n100) (w .n200) (w .good), lt-ltb (w .n50) (w .n100) (w .ok), le-leb 1 (w .n50) (w .meh)))
 
 pub weighs-right : (ws : List ℕ) → (weighs ws ≡ true) ↔ Weighting ws
 weighs-right ws = (weighting ws, weighed ws)

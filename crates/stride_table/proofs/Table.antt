@@ -101,7 +101,7 @@ first = record { n320 = 61; n300 = 60; n200 = 40; n100 = 20; n50 = 10 }
 second : Weights
 second = record { n320 = 60; n300 = 60; n200 = 40; n100 = 20; n50 = 10 }
 
-pub standard-table
+standard-table
     : (ws vs out out′ : List ℕ) (r : ℕ) → r ≡ tableStatus ws vs (length out) → out′ ≡ tableOut ws vs out
     → ws ≡ standard false → vs ≡ standard true → 320 ≤ length out → (r ≡ 0) × (take 320 out′ ≡ standardTable)
 unfolding first second

@@ -23,12 +23,12 @@ unfoldable pub lineText : List ℕ → List ℕ
 lineText ns = spaced ns ++ (10 ∷ [])
 
 -- line i of a table: its numbers from 5 i on
-unfoldable pub tableLine : List ℕ → ℕ → List ℕ
-tableLine t i = lineText (take 5 (drop (5 * i) t))
+unfoldable pub strideLine : List ℕ → ℕ → List ℕ
+strideLine t i = lineText (take 5 (drop (5 * i) t))
 
 -- a table's 320 numbers, "five numbers a line"
-unfoldable pub tableText : List ℕ → List ℕ
-tableText t = joined (tableLine t) 64
+unfoldable pub stridesText : List ℕ → List ℕ
+stridesText t = joined (strideLine t) 64
 
 -- the two sets, of five u32 each
 abbrev pub firstSet : List ℕ → List ℕ
@@ -38,8 +38,8 @@ abbrev pub secondSet : List ℕ → List ℕ
 secondSet s = weightsOf (weightsAt s 20)
 
 -- what is printed of the bytes that were read
-unfoldable pub printedOf : List ℕ → List ℕ
-printedOf s =
+unfoldable pub printedStrides : List ℕ → List ℕ
+printedStrides s =
     cond (eqb (length s) 40)
-    (cond (weighs (firstSet s) && weighs (secondSet s)) (tableText (tableOf (firstSet s) (secondSet s))) (refusedText 18))
+    (cond (weighs (firstSet s) && weighs (secondSet s)) (stridesText (tableOf (firstSet s) (secondSet s))) (refusedText 18))
     (refusedText 1)

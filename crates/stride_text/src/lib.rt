@@ -4,7 +4,7 @@ ghost use Prim.Native.Nat.{_+_, _*_, _≤_, _<_};
 ghost use lib.ListN.{length, take, drop};
 ghost use Rattle.io.specs.Counts.{Counts};
 ghost use Rattle.text.specs.Text.{Appended};
-ghost use Rattle.stride_text.specs.StrideText.{lineText, tableText, printedOf};
+ghost use Rattle.stride_text.specs.StrideText.{lineText, stridesText, printedStrides};
 
 // The longest table: 64 lines of five numbers of at most ten digits, each with a space or the line's end behind it.
 pub const ROOM: usize = 64 * (5 * 11);
@@ -27,7 +27,7 @@ fn put_line(text: &mut [u8], at: usize, numbers: &[u32]) -> usize
 // The 64 lines of a table.
 fn put_lines(text: &mut [u8], table: &[u32]) -> usize
     requires { ⌜ (3520 ≤ length (now text)) × (320 ≤ length (now table)) ⌝ }
-    ensures { λ r. ⌜ Appended (now (text .entry)) 0 (now (text .exit)) r (tableText (now (table .entry))) ⌝ }
+    ensures { λ r. ⌜ Appended (now (text .entry)) 0 (now (text .exit)) r (stridesText (now (table .entry))) ⌝ }
 {
     let mut end: usize = 0;
     let mut i: usize = 0;
@@ -43,7 +43,7 @@ fn put_lines(text: &mut [u8], table: &[u32]) -> usize
 // that is; those past them stay.
 pub fn print_strides(weights: &[u8], text: &mut [u8; ROOM]) -> usize
     ensures counted { λ r. ⌜ Counts r (now (text .exit)) ⌝ }
-    ensures printed { λ r. ⌜ take r (now (text .exit)) ≡ printedOf (now (weights .entry)) ⌝ }
+    ensures printed { λ r. ⌜ take r (now (text .exit)) ≡ printedStrides (now (weights .entry)) ⌝ }
     ensures beyond { λ r. ⌜ drop r (now (text .exit)) ≡ drop r (now (text .entry)) ⌝ }
 {
     if weights.len() != 40 {
