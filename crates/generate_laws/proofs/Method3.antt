@@ -90,7 +90,7 @@ module _ (i : Inspect) (acc : Float) where
   unfolding nearest
   found-or b e = ap (λ (x : Bool). cond x none (some (walkOf i acc))) e
 
-  walked-is : stops (givens i) (remain i) ≡ false → walked ≡ some (walkOf i acc)
+  pub walked-is : stops (givens i) (remain i) ≡ false → walked ≡ some (walkOf i acc)
   walked-is e = found-or false e
 
   stopped-is : stops (givens i) (remain i) ≡ true → walked ≡ none
@@ -307,12 +307,25 @@ both-answer i (some acc) h two c n t = go (stops (givens i) (remain i)) refl n
         }
 
 -- an answer with status 0 passed the shared checks
-passed-0 : (q : Query) → statusOf (generateAnswer q) ≡ 0 → stopOf q ≡ 0
+pub passed-0 : (q : Query) → statusOf (generateAnswer q) ≡ 0 → stopOf q ≡ 0
 passed-0 q e = go (eqb (stopOf q) 0) refl
   where
     go : (b : Bool) → eqb (stopOf q) 0 ≡ b → stopOf q ≡ 0
     go true b = eqb-true (stopOf q) 0 b
     go false b = ap (λ (a : Answer (List ℕ)). statusOf a) (sym (halts q (eqb-false (stopOf q) 0 b))) ∙ e
+
+-- and of method 3 check 14
+pub passed-14
+    : (q : Query) (acc : Float) → q .method ≡ 3 → (inspectOf q) .acc ≡ some acc → statusOf (generateAnswer q) ≡ 0
+    → stops (givens (inspectOf q)) (remain (inspectOf q)) ≡ false
+passed-14 q acc m a e = go (stops (givens (inspectOf q)) (remain (inspectOf q))) refl
+  where
+    go : (b : Bool) → stops (givens (inspectOf q)) (remain (inspectOf q)) ≡ b → stops (givens (inspectOf q)) (remain (inspectOf q)) ≡ false
+    go false s = s
+    go true s =
+        let n = nearest-stops (givens (inspectOf q)) (remain (inspectOf q)) refl .0 s in
+        let f : statusOf (generateAnswer q) ≡ 14 = status-14 q (record { method = m; passes = passed-0 q e; acc = acc; given = a; none-exists = n }) in
+        absurd (omega arith)
 
 pub equally
     : (q r : Query) → q .method ≡ 2 → r .method ≡ 3 → inspectOf q ≡ inspectOf r

@@ -6,6 +6,7 @@ pub mod Pad
 pub mod Fill
 pub mod Fold
 pub mod Nearest
+pub mod Rising
 pub mod Weighs
 pub mod Tried
 pub mod Places

@@ -2,3 +2,4 @@ pub mod Walk
 pub mod Places
 pub mod Split
 pub mod Nearest
+pub mod Rising

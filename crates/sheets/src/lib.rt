@@ -3,7 +3,9 @@ ghost use mathlib.Core.Path.{_≡_};
 ghost use Prim.Native.Nat.{_+_, _*_, _≤_};
 ghost use lib.ListN.{length, take};
 ghost use Rattle.sheets_laws.specs.Sheets.{sheetStop, rowsWritten, sheetOf};
-ghost use Rattle.sheets.specs.Worked.{workedOf, Demanded};
+ghost use Rattle.sheets_laws.specs.Demand3.{Demand3};
+ghost use Rattle.sheets_laws.specs.RisingRows.{RisingRows};
+ghost use Rattle.sheets.specs.Worked.{workedOf, WhenWorked};
 use inspect::Chart;
 
 // How many queries were worked, or the number of the check that stops the sheet.
@@ -74,7 +76,8 @@ fn work_rows(
 // Works every query of a sheet and writes its answer, 32 bytes each; a sheet that a check stops leaves the output unchanged.
 pub fn work_sheet(sheet: &[u8], out: &mut [u8]) -> SheetAnswer
     ensures equation { λ r. ⌜ workedOf r (now (out .exit)) ≡ sheetOf (now (sheet .entry)) (now (out .entry)) ⌝ }
-    ensures demand3 { λ r. ⌜ Demanded r (now (sheet .entry)) (now (out .exit)) ⌝ }
+    ensures demand3 { λ r. ⌜ WhenWorked r (Demand3 (now (sheet .entry)) (now (out .exit))) ⌝ }
+    ensures rising { λ r. ⌜ WhenWorked r (RisingRows (now (sheet .entry)) (now (out .exit))) ⌝ }
 {
     let stop = sheet_stop(sheet, out.len());
     if stop > 0 {

@@ -3,3 +3,4 @@ pub mod Written
 pub mod Laws
 pub mod Stops
 pub mod Demand3
+pub mod RisingRows

@@ -1,2 +1,3 @@
 pub mod Sheets
 pub mod Demand3
+pub mod RisingRows

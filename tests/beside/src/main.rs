@@ -32,6 +32,7 @@ mod plays;
 mod program;
 mod query;
 mod repo;
+mod rising;
 mod sheet;
 mod sheet_inputs;
 mod sheets;
@@ -46,7 +47,7 @@ include!(concat!(env!("OUT_DIR"), "/tree.rs"));
 /// The parts in their order, each with what runs it and says whether nothing differed.
 type Part = (&'static str, fn(&mut Rng) -> bool);
 
-const PARTS: [Part; 11] = [
+const PARTS: [Part; 12] = [
     ("accuracy", accuracy::run),
     ("target", target::run),
     ("ignore_acc", |rng| plain::run(Method::IgnoreAcc, rng)),
@@ -57,6 +58,7 @@ const PARTS: [Part; 11] = [
     ("nearest", nearest::run),
     ("generate", generate::run),
     ("sheets", sheets::run),
+    ("rising", rising::run),
     ("bench", |rng| {
         bench::run(rng);
         true

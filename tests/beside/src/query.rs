@@ -153,12 +153,16 @@ impl Query {
         self.acc = target.clamp(0, full.into()) as f64 / f64::from(full);
     }
 
+    /// The points of these five counts.
+    pub fn points(&self, counts: &[u32]) -> i64 {
+        let points = |(&n, w): (&u32, u32)| i64::from(n) * i64::from(w);
+
+        counts.iter().zip(self.weights()).map(points).sum()
+    }
+
     /// How far these counts lie from the rounded target.
     pub fn distance(&self, counts: &[u32]) -> u64 {
-        let points = |(&n, w): (&u32, u32)| i64::from(n) * i64::from(w);
-        let points: i64 = counts.iter().zip(self.weights()).map(points).sum();
-
-        points.abs_diff(self.target())
+        self.points(counts).abs_diff(self.target())
     }
 
     pub fn chart_over(&self) -> bool {

@@ -156,3 +156,13 @@ pub fn written(answers: &[Answer]) -> Vec<u8> {
 
     bytes
 }
+
+/// The answers that these bytes hold.
+pub fn read(written: &[u8]) -> Vec<Answer> {
+    let answer = |bytes: &[u8]| Answer {
+        status: u32_at(bytes, 0),
+        values: std::array::from_fn(|i| u32_at(bytes, 4 + 4 * i)),
+    };
+
+    written.chunks_exact(ANSWER).map(answer).collect()
+}

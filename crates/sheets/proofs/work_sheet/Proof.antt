@@ -1,6 +1,6 @@
--- `sheets::work_sheet` meets its contract; demand 3 is a law of its equation. Assumes nothing.
+-- `sheets::work_sheet` meets its contract; demand 3 and L8 are laws of its equation. Assumes nothing.
 use Rattle.sheets.specs.declared.SheetAnswer.the-variants.{Worked, Refused}
-use Rattle.sheets.proofs.Laws.{demanded}
+use Rattle.sheets.proofs.Laws.{claims}
 use mathlib.Core.Path.{_≡_, sym, _∙_}
 use lib.ListN.{length, take}
 use native.Mathlib.Omega.{arith}
@@ -15,7 +15,7 @@ sheet-stop-requires c κs = tt
 returns : tie.Need-returns
 returns c =
     let e = sheet-stopped (c .before .before .before .before .args .sheet .now) (c .before .before .before .before .args .out .now) (c .before .sheet-stop .result) (c .before .sheet-stop .ensures) (omega arith) in
-    (e, demanded (Refused (c .before .sheet-stop .result)) (c .before .before .before .before .args .sheet .now) (c .before .before .before .before .args .out .now) _ e)
+    claims (Refused (c .before .sheet-stop .result)) (c .before .before .before .before .args .sheet .now) (c .before .before .before .before .args .out .now) _ e
 
 word-from-requires : tie.Need-word-from-requires
 word-from-requires c κs =
@@ -61,7 +61,7 @@ returns-2 c =
     let e =
     sheet-from (c .before .before .before .before .before .before .before .before .before .before .before .args .sheet .now) (c .before .before .before .before .before .before .before .before .before .before .before .args .out .now) (c .before .before .before .before .before .before .word-from .result) (c .before .before .before .before .before .word-from2 .result) (take (c .before .before .before .before .before .before .word-from .result) (c .before .before .before .before .read-charts .result)) _
     (sym (c .before .before .before .before .before .before .before .before .sheet-stop .ensures) ∙ z) (c .before .before .before .before .before .before .word-from .ensures) (c .before .before .before .before .before .word-from2 .ensures) (c .before .before .before .before .read-charts .ensures .0) (c .before .before .work-rows .ensures) in
-    (e, demanded (Worked (c .before .before .before .before .before .word-from2 .result)) (c .before .before .before .before .before .before .before .before .before .before .before .args .sheet .now) (c .before .before .before .before .before .before .before .before .before .before .before .args .out .now) _ e)
+    claims (Worked (c .before .before .before .before .before .word-from2 .result)) (c .before .before .before .before .before .before .before .before .before .before .before .args .sheet .now) (c .before .before .before .before .before .before .before .before .before .before .before .args .out .now) _ e
 
 pub work-sheet-spec : {M : Type 1} → statement M
 work-sheet-spec =

@@ -1,0 +1,69 @@
+-- Document 02, L8, proved of what a sheet answers: for every accepted sheet the rows written are such. Assumes nothing.
+use Prim.Native.Nat.{ℕ, _<_}
+use mathlib.Core.Path.{_≡_, refl, sym, ap, _∙_, subst}
+use mathlib.Core.Bool.{false}
+use mathlib.Core.List.{List, [], _∷_, _++_}
+use mathlib.Core.Option.{some}
+use lib.Ieee.{Float}
+use lib.ListN.{length}
+use Rattle.score_state.specs.Answer.{statusOf}
+use Rattle.inspect.specs.Inspect.{Inspect, givens, remain}
+use Rattle.records.specs.declared.Row.{Row}
+use Rattle.rows.specs.Rows.{queryOf}
+use Rattle.nearest_laws.specs.Nearest.{stops}
+use Rattle.generate_laws.specs.Generate.{generateAnswer}
+use Rattle.generate_laws.specs.Method3.{fiveOf, missesOf, IsNearest}
+use Rattle.generate_laws.proofs.Method3.{passed-0, passed-14}
+use Rattle.generate_laws.proofs.Rising as Answers
+use Rattle.sheets_laws.specs.Sheets.{queryCount, sheetStop, sheetOf}
+use Rattle.sheets_laws.specs.Demand3.{row, query, inspected, written}
+use Rattle.sheets_laws.specs.RisingRows.{withAcc, sixOf, AlikeButForAcc, RisingRows}
+use Rattle.sheets_laws.proofs.Demand3.{seen, status-back, values-back, passed-row, answered, demand-3}
+
+-- rows alike but for acc have queries alike but for it
+other-acc
+    : (s : List ℕ) (j k : ℕ) → withAcc (row s k .acc) (row s j) ≡ row s k
+    → Answers.withAccuracy (inspected s k .acc) (inspected s j) ≡ inspected s k
+unfolding queryOf
+other-acc s j k e = subst (λ (r : Row). Answers.withAccuracy (seen s r .acc) (inspected s j) ≡ seen s r) e refl
+
+module _ (s out : List ℕ) (ok : sheetStop s (length out) ≡ 0) where
+  abbrev bytes : List ℕ
+  bytes = sheetOf s out .bytes
+
+  -- a method 3 row whose status is 0 was stopped by no check, so demand 3 holds of it
+  walked
+      : (k : ℕ) (acc : Float) → k < queryCount s → row s k .method ≡ 3 → inspected s k .acc ≡ some acc → statusOf (written bytes k) ≡ 0
+      → (stops (givens (inspected s k)) (remain (inspected s k)) ≡ false) × IsNearest (inspected s k) acc (written bytes k)
+  unfolding queryOf
+  walked k acc l m a z =
+      let g : statusOf (generateAnswer (query s k)) ≡ 0 = ap statusOf (sym (answered s out ok k l z)) ∙ sym (status-back s out ok k l) ∙ z in
+      let t = passed-row s out ok k l z in
+      let p = passed-14 (query s k) acc m a g in
+      (p, demand-3 s out ok .nearest k acc l m (record { chart = t .0; fields = t .1; numbers = passed-0 (query s k) g; given = a }) p)
+
+  -- the six counts of a row with status 0 are its five and its misses
+  six : (k : ℕ) → k < queryCount s → statusOf (written bytes k) ≡ 0 → sixOf (written bytes k) ≡ fiveOf (written bytes k) ++ (missesOf (written bytes k) ∷ [])
+  six k l z = rw (values-back s out ok k l (sym (status-back s out ok k l) ∙ z)) refl
+
+  -- the walk's law of two such rows, of what is written for them
+  answers
+      : (j k : ℕ) (x y : Float) → AlikeButForAcc s bytes j k x y
+      → Answers.RisingAnswers (inspected s j) (inspected s k) x y (written bytes j) (written bytes k)
+  answers j k x y c =
+      let n = walked j x (c .first) (c .method) (c .first-acc) (c .first-status) in
+      let m = walked k y (c .second) (ap (λ (r : Row). r .method) (sym (c .alike)) ∙ c .method) (c .second-acc) (c .second-status) in
+      subst
+      (λ (i : Inspect). IsNearest i y (written bytes k) → Answers.RisingAnswers (inspected s j) i x y (written bytes j) (written bytes k))
+      (other-acc s j k (c .alike))
+      (Answers.rising-answers (inspected s j) (inspected s k .acc) x y (written bytes j) (written bytes k) (n .0) (n .1))
+      (m .1)
+
+  pub rising-rows : RisingRows s bytes
+  rising-rows =
+      record {
+        raised = λ j k x y c. answers j k x y c .raised;
+        same = λ j k x y c t.
+            let e = answers j k x y c .same t in
+            rw (six j (c .first) (c .first-status), six k (c .second) (c .second-status), e .0, e .1) refl;
+      }
