@@ -314,7 +314,14 @@ passed-0 q e = go (eqb (stopOf q) 0) refl
     go true b = eqb-true (stopOf q) 0 b
     go false b = ap (λ (a : Answer (List ℕ)). statusOf a) (sym (halts q (eqb-false (stopOf q) 0 b))) ∙ e
 
--- and of method 3 check 14
+-- and, of method 3, 13 and 14
+pub passed-13 : (q : Query) → q .method ≡ 3 → statusOf (generateAnswer q) ≡ 0 → (inspectOf q) .acc ≡ none → ⊥
+unfolding nearestOf
+passed-13 q m e a =
+    let z : _≡_ {A = ℕ} 13 0 =
+    ap statusOf (sym (passes q (passed-0 q e) ∙ third (q .method) (inspectOf q) m ∙ ap (λ (o : Option Float). nearestOf (inspectOf q) o) a)) ∙ e in
+    omega arith
+
 pub passed-14
     : (q : Query) (acc : Float) → q .method ≡ 3 → (inspectOf q) .acc ≡ some acc → statusOf (generateAnswer q) ≡ 0
     → stops (givens (inspectOf q)) (remain (inspectOf q)) ≡ false

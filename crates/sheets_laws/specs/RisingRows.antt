@@ -5,8 +5,7 @@
 use Prim.Native.Nat.{ℕ, _≤_, _<_}
 use mathlib.Core.Path.{_≡_}
 use mathlib.Core.List.{List}
-use mathlib.Core.Option.{some}
-use lib.Ieee.{Float}
+use lib.Ieee.{binary64, ofBits}
 use lib.ListN.{take}
 use Rattle.score_state.specs.Points.{points, standard}
 use Rattle.score_state.specs.Answer.{Answer, statusOf, valuesOf}
@@ -39,29 +38,27 @@ withAcc a r =
 abbrev pub sixOf : Answer (List ℕ) → List ℕ
 sixOf a = take 6 (valuesOf a)
 
+-- the rounded target of row k, whose accuracy has the bits of its field acc
+abbrev pub targetAt : List ℕ → ℕ → ℕ
+targetAt s k = targetOf (inspected s k) (ofBits binary64 (row s k .acc))
+
 -- the points of row k's counts as written, by the weights of its classic flag
 abbrev pub pointsAt : List ℕ → List ℕ → ℕ → ℕ
 pointsAt s out k = points (standard (inspected s k .classic)) (fiveOf (written out k))
 
--- "two method 3 rows with status 0, under the same weights, of the same chart and alike but for acc": the rows j and k, whose
--- accuracies are x and y. A row's own fields name its chart and its weights.
-pub record AlikeButForAcc (s out : List ℕ) (j k : ℕ) (x y : Float) : Type 0 where
+-- "two method 3 rows with status 0, under the same weights, of the same chart and alike but for acc": the rows j and k. A row's own
+-- fields name its chart and its weights.
+pub record AlikeButForAcc (s out : List ℕ) (j k : ℕ) : Type 0 where
   pub first : j < queryCount s
   pub second : k < queryCount s
   pub method : row s j .method ≡ 3
   pub alike : withAcc (row s k .acc) (row s j) ≡ row s k
   pub first-status : statusOf (written out j) ≡ 0
   pub second-status : statusOf (written out k) ≡ 0
-  pub first-acc : inspected s j .acc ≡ some x
-  pub second-acc : inspected s k .acc ≡ some y
 
 -- The request, of a sheet and the bytes of the output at the end.
 pub record RisingRows (s out : List ℕ) : Type 0 where
   -- "if the rounded target of one is at least the other's, so are its points"
-  pub raised
-      : (j k : ℕ) (x y : Float) → AlikeButForAcc s out j k x y → targetOf (inspected s j) x ≤ targetOf (inspected s k) y
-      → pointsAt s out j ≤ pointsAt s out k
+  pub raised : (j k : ℕ) → AlikeButForAcc s out j k → targetAt s j ≤ targetAt s k → pointsAt s out j ≤ pointsAt s out k
   -- "equal targets must give the same six counts"
-  pub same
-      : (j k : ℕ) (x y : Float) → AlikeButForAcc s out j k x y → targetOf (inspected s j) x ≡ targetOf (inspected s k) y
-      → sixOf (written out j) ≡ sixOf (written out k)
+  pub same : (j k : ℕ) → AlikeButForAcc s out j k → targetAt s j ≡ targetAt s k → sixOf (written out j) ≡ sixOf (written out k)
