@@ -49,7 +49,7 @@ impl Row {
 impl fmt::Display for Row {
     fn fmt(&self, f: &mut fmt::Formatter<'_>) -> fmt::Result {
         let acc = f64::from_bits(self.acc);
-        write!(f, "acc {acc:?} target {}: {:?}", self.target, self.six)
+        write!(f, "acc {acc:?}: target {}, {:?}", self.target, self.six)
     }
 }
 
@@ -90,8 +90,10 @@ impl Part<'_> {
             let rises = low.points <= high.points;
             let same = low.target < high.target || low.six == high.six;
 
-            self.tally
-                .judge(rises && same, || format!("{q}, at {low}; {high}"));
+            self.tally.judge(rises && same, || {
+                let acc = f64::from_bits(low.acc);
+                format!("{}, {low}; {high}", Query { acc, ..*q })
+            });
         }
 
         rows
