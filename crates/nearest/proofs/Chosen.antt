@@ -39,12 +39,6 @@ unfolding firstOf
 first-le [] f = omega arith
 first-le (a ∷ bs) f = omega (arith, f .0)
 
-last-le : (M : ℕ) (us : List ℕ) → Falling M us → lastOf 0 us ≤ firstOf 0 us
-unfolding firstOf lastOf
-last-le M [] f = omega arith
-last-le M (a ∷ []) f = omega arith
-last-le M (a ∷ (b ∷ bs)) f = omega (arith, last-lt a b bs (f .1 .0) (f .1 .1))
-
 last-less : (M : ℕ) (us : List ℕ) → Falling M us → 2 ≤ length us → lastOf 0 us < firstOf 0 us
 unfolding firstOf lastOf
 last-less M [] f h = absurd (omega arith)
@@ -57,7 +51,6 @@ module _ {w : Weights} {p : ℕ} {target : Points} {plan : Plan} (pl : Planned w
       let us = missing (weightsOf w) (givensOf p k) in
       let light : plan .a ≤ mostWeight = omega (arith, pl .ends .heaviest k, first-le us f) in
       record {
-        order = omega (arith, pl .ends .heaviest k, pl .ends .lightest k, last-le (suc mostWeight) us f);
         apart = λ h. omega (arith, pl .ends .heaviest k, pl .ends .lightest k, last-less (suc mostWeight) us f (omega (arith, missing-length w p k)));
         slots =
             record {

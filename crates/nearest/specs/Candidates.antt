@@ -15,7 +15,6 @@ candidatesOf (suc (suc n)) p R g = eachN300 p (unset R g)
 
 -- What the walk of n missing judgements asks, with R hits to give and g points of the given counts.
 pub record Walkable (n : ℕ) (p : Plan) (R g : ℕ) : Type 0 where
-  pub order : p .c ≤ p .a
   pub apart : 2 ≤ n → p .c < p .a
   pub slots : Slots p
   pub light : p .a ≤ mostWeight

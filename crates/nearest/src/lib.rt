@@ -63,7 +63,11 @@ fn best_of(presence: u8, plan: Plan, remain_hits: Hits, points: Points) -> Best
     let start = Best::fresh();
     match inspect::missing_of(presence) {
         Missing::Nothing => start,
-        Missing::One => start.attempt(plan, at, remain_hits),
+        Missing::One => start.attempt(
+            at,
+            remain_hits,
+            points.plus(remain_hits.times(plan.a)).gap(plan.target),
+        ),
         Missing::Two | Missing::ThreePlus => start.each_n300(plan, at),
     }
 }

@@ -2,6 +2,7 @@ pub mod Exchange
 pub mod Near
 pub mod Bound
 pub mod Steps
+pub mod Low
 pub mod Pad
 pub mod Fill
 pub mod Fold

@@ -101,7 +101,7 @@ high-near : (B w T lo j : ℕ) → T - B < lo * w + w → lo < j → gap (B + w 
 unfolding gap
 high-near B w T lo j h lj = omega (arith, mul-comm lo w, mul-suc w lo, mul-le-mul-left w lj)
 
-trial-points : (a c r p : ℕ) (ks : List ℕ) (j : ℕ) → c < a → j ≤ r → trial a c r p ks j .points ≡ p + c * r + (a - c) * j
+pub trial-points : (a c r p : ℕ) (ks : List ℕ) (j : ℕ) → c < a → j ≤ r → trial a c r p ks j .points ≡ p + c * r + (a - c) * j
 unfolding trial
 trial-points a c r p ks j h l = points-at a c r p j h l
 

@@ -95,6 +95,14 @@ impl Points {
         Points(self.0 + other.0)
     }
 
+    // The rest, where the other is a part of it.
+    pub fn minus(self, other: Points) -> Points
+        requires { ⌜ other .0 ≤ self .0 ⌝ }
+        ensures { λ r. ⌜ r .0 ≡ self .0 - other .0 ⌝ }
+    {
+        Points(self.0 - other.0)
+    }
+
     // 0 where the other is more.
     pub fn saturating_sub(self, other: Points) -> Points
         ensures { λ r. ⌜ r .0 ≡ self .0 - other .0 ⌝ }

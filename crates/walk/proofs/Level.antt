@@ -11,14 +11,17 @@ use native.Mathlib.Omega.{arith}
 use lib.Dec.{ltb}
 use borrow.Author.Tests.{ltb-true, ltb-false}
 use Rattle.units.specs.Limits.{most32}
+use Rattle.units.specs.Gap.{gap}
 use Rattle.nearest_laws.specs.Walk.{Middle, Best, over, offer, settle, rows, lowest, pair, settings}
 use Rattle.nearest_laws.specs.Places.{Slot}
 use Rattle.nearest_laws.proofs.Steps.{settle-over, settle-cons, settle-mono, loop-step, loop-end, loop-count, fits-step}
-use Rattle.walk.specs.Code.{view, middleOf, settingsOf, rowOf, bothOf, trialOf, PointsFit, Ready}
+use Rattle.nearest_laws.proofs.Low.{sides-gap, next-gap, next-fits}
+use Rattle.walk.specs.Code.{view, middleOf, settingsOf, rowOf, bothOf, trialOf, PointsFit, Ready, IsLow}
 use Rattle.walk.specs.declared.Middle.{Middle as MiddleCode}
 use Rattle.walk.specs.declared.Best.{Best as BestCode}
 use Rattle.walk.specs.declared.Plan.{Plan}
 use Rattle.walk.specs.declared.Setting.{Setting}
+use Rattle.walk.specs.declared.Low.{Low}
 
 -- the running best b after k turns: what is left gives from b what all candidates give from b₀
 pub record Run (p : Plan) (s : Setting) (m : MiddleCode) (ms : List Middle) (ks : List ℕ) (b₀ : BestCode) (turns k : ℕ) (b : BestCode) : Type 0 where
@@ -78,6 +81,21 @@ module _ {p : Plan} {s : Setting} {m : MiddleCode} {ms : List Middle} {ks : List
             within = omega (arith, run-less);
             same = rw (i, o, ← loop-step (p .target .0) turns k (rowOf p s m ms ks) (view b) run-less) (r .same);
           }
+
+-- the distances of both candidates of a setting, from the lower one's
+module _ {p : Plan} {s : Setting} {l : Low} (i : IsLow p s l) where
+  pub low-gap : l .below .0 + l .above .0 ≡ gap (trialOf p s (l .top .0) .points) (p .target .0)
+  low-gap = sides-gap (trialOf p s (l .top .0) .points) (p .target .0) (l .below .0) (l .above .0) (i .below) (i .above)
+
+  module _ (o : p .c < p .a) (h : l .top .0 < s .left .0) where
+    pub low-next : l .above .0 + (p .a - p .c) - l .below .0 ≡ gap (trialOf p s (l .top .0 + 1) .points) (p .target .0)
+    low-next =
+        next-gap (p .a) (p .c) (p .target .0) (s .left .0) (s .points .0) _ o (l .top .0) (l .above .0) h (i .above) (l .below .0) (i .below)
+        (i .under h)
+
+    pub low-fits : PointsFit p s → l .above .0 + (p .a - p .c) ≤ most32
+    low-fits f =
+        next-fits (p .a) (p .c) (p .target .0) (s .left .0) (s .points .0) _ o (l .top .0) (l .above .0) h (i .above) most32 f
 
 -- the running best n after the lower candidate of a setting
 pub record Lower (p : Plan) (s : Setting) (b : BestCode) (lo : ℕ) (n : BestCode) : Type 0 where

@@ -1,16 +1,17 @@
 -- Document 01, Nearest, steps 2 to 4, whose definition is nearest_laws/specs/Walk.antt: the code's structs as its values, and what the
 -- functions of the walk ask.
 use Prim.Native.Nat.{ℕ, _+_, _-_, _*_, _<_, _≤_}
+use mathlib.Core.Path.{_≡_}
 use mathlib.Core.List.{List, [], _∷_, _++_}
 use Rattle.units.specs.Limits.{most32}
-use Rattle.units.specs.declared.Points.{Points}
-use Rattle.nearest_laws.specs.Walk.{Try, Best, Middle, settle, trial, settings}
+use Rattle.nearest_laws.specs.Walk.{Try, Best, Middle, settle, lowest, trial, settings}
 use Rattle.nearest_laws.specs.Places.{Slot}
 use Rattle.walk.specs.declared.Middle.{Middle as MiddleCode}
 use Rattle.walk.specs.declared.Spread.{Spread}
 use Rattle.walk.specs.declared.Best.{Best as BestCode}
 use Rattle.walk.specs.declared.Plan.{Plan}
 use Rattle.walk.specs.declared.Setting.{Setting}
+use Rattle.walk.specs.declared.Low.{Low}
 
 abbrev pub spreadOf : Spread → List ℕ
 spreadOf x = x .top .0 ∷ x .n300 .0 ∷ x .n200 .0 ∷ x .n100 .0 ∷ x .rest .0 ∷ []
@@ -23,9 +24,9 @@ view b = record { tried = b .tried; dist = b .dist .0; counts = spreadOf (b .spr
 abbrev pub fresh : Best
 fresh = record { tried = 0; dist = 0; counts = 0 ∷ 0 ∷ 0 ∷ 0 ∷ 0 ∷ [] }
 
--- a candidate
-abbrev pub tryOf : Spread → Points → Try
-tryOf x p = record { counts = spreadOf x; points = p .0 }
+-- a candidate with p points
+abbrev pub tryOf : Spread → ℕ → Try
+tryOf x p = record { counts = spreadOf x; points = p }
 
 abbrev pub middleOf : MiddleCode → Middle
 middleOf m = record { weight = m .weight; q = m .q }
@@ -65,6 +66,14 @@ eachN300 p s = settingsOf p s (middleOf (p .n300) ∷ middleOf (p .n200) ∷ mid
 -- the candidate of a setting with j hits at a
 abbrev pub trialOf : Plan → Setting → ℕ → Try
 trialOf p s j = trial (p .a) (p .c) (s .left .0) (s .points .0) (s .n300 .0 ∷ s .n200 .0 ∷ s .n100 .0 ∷ []) j
+
+-- The lower candidate of a setting: lo hits at a, and how far its points lie below the target and above it. Where a hit is left for
+-- one more at a, they lie below it by less than that adds.
+pub record IsLow (p : Plan) (s : Setting) (l : Low) : Type 0 where
+  pub top : l .top .0 ≡ lowest (p .a) (p .c) (p .target .0) (s .left .0) (s .points .0)
+  pub below : l .below .0 ≡ p .target .0 - trialOf p s (l .top .0) .points
+  pub above : l .above .0 ≡ trialOf p s (l .top .0) .points - p .target .0
+  pub under : l .top .0 < s .left .0 → l .below .0 < p .a - p .c
 
 -- a setting before any middle is set: R hits to give, g points of the given counts
 abbrev pub unset : ℕ → ℕ → Setting

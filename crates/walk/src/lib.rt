@@ -1,10 +1,12 @@
 // Nearest's walk (document 01, steps 2 to 4): both candidates of every setting of the middles, and the first nearest of them.
 ghost use mathlib.Core.Path.{_≡_};
 ghost use mathlib.Core.Bool.{false};
-ghost use Prim.Native.Nat.{suc, _+_, _*_, _<_, _≤_, _-_, min};
+ghost use Prim.Native.Nat.{ℕ, suc, _+_, _*_, _<_, _≤_, _-_, min};
 ghost use Rattle.units.specs.Limits.{most32};
+ghost use Rattle.units.specs.Gap.{gap};
 ghost use Rattle.nearest_laws.specs.Walk as Walk;
-ghost use Rattle.walk.specs.Code.{view, fresh, tryOf, trialOf, setOf, bothOf, eachN100, eachN200, eachN300, PointsFit, Ready};
+ghost use Rattle.walk.specs.declared.Plan as Plans;
+ghost use Rattle.walk.specs.Code.{view, fresh, tryOf, trialOf, setOf, bothOf, eachN100, eachN200, eachN300, PointsFit, Ready, IsLow};
 use units::Hits;
 use units::Points;
 
@@ -49,18 +51,45 @@ pub struct Best {
     pub spread: Spread,
 }
 
-// lo: the most hits at a that stay at or below the target, 0 where none does.
-fn lowest(plan: Plan, at: Setting) -> Hits
+// The lower candidate of a setting: its hits at a, and how far its points lie below the target or above it; one of the two is 0.
+struct Low {
+    top: Hits,
+    below: Points,
+    above: Points,
+}
+
+// lo: the most hits at a that stay at or below the target, 0 where none does. What the division leaves over is its distance, unless
+// lo is cut off at the hits left.
+fn lowest(plan: Plan, at: Setting) -> Low
     requires { ⌜ (plan .c < plan .a) × PointsFit plan at ⌝ }
-    ensures { λ r. ⌜ r .0 ≡ Walk.lowest (plan .a) (plan .c) (plan .target .0) (at .left .0) (at .points .0) ⌝ }
+    ensures { λ r. ⌜ IsLow plan at r ⌝ }
 {
     let left = at.left;
+    let step = plan.a - plan.c;
     let base = at.points.plus(left.times(plan.c));
     if plan.target.less(base) {
-        return Hits(0);
+        return Low {
+            top: Hits(0),
+            below: Points(0),
+            above: base.minus(plan.target),
+        };
     }
-    let steps = plan.target.saturating_sub(base).steps(plan.a - plan.c);
-    steps.count.least(left)
+    let steps = plan.target.minus(base).steps(step);
+    let count = steps.count;
+    let rest = steps.rest;
+    if count.less(left) {
+        return Low {
+            top: count,
+            below: rest,
+            above: Points(0),
+        };
+    }
+    // Cut off at the hits left, or just there.
+    Low {
+        top: left,
+        below: count.minus(left).times(step).plus(rest),
+        above: Points(0),
+    }
 }
 
 impl Middle {
@@ -126,11 +155,10 @@ impl Best {
     }
 
     // A better candidate takes the place of the best.
-    fn offer(mut self, spread: Spread, points: Points, target: Points) -> Best
+    fn offer(mut self, spread: Spread, dist: Points) -> Best
         requires { ⌜ self .tried < most32 ⌝ }
-        ensures { λ r. ⌜ view r ≡ Walk.offer (target .0) (tryOf spread points) (view self) ⌝ }
+        ensures { λ r. ⌜ ((T p : ℕ) → dist .0 ≡ gap p T → view r ≡ Walk.offer T (tryOf spread p) (view self)) ⌝ }
     {
-        let dist = points.gap(target);
         let better = self.better(dist);
         self.tried += 1;
         if better {
@@ -140,16 +168,15 @@ impl Best {
         self
     }
 
-    // The candidate with `top` hits at a and the rest at c.
-    pub fn attempt(self, plan: Plan, at: Setting, top: Hits) -> Best
-        requires { ⌜ (plan .c ≤ plan .a) × PointsFit plan at × (top .0 ≤ at .left .0) × (self .tried < most32) ⌝ }
-        ensures { λ r. ⌜ view r ≡ Walk.offer (plan .target .0) (trialOf plan at (top .0)) (view self) ⌝ }
+    // The candidate with `top` hits at a and the rest at c, whose points lie so far from the target.
+    pub fn attempt(self, at: Setting, top: Hits, dist: Points) -> Best
+        requires { ⌜ (top .0 ≤ at .left .0) × (self .tried < most32) ⌝ }
+        ensures { λ r. ⌜ ((p : Plans.Plan) → dist .0 ≡ gap (trialOf p at (top .0) .points) (p .target .0) → view r ≡ Walk.offer (p .target .0) (trialOf p at (top .0)) (view self)) ⌝ }
     {
         let n300 = at.n300;
         let n200 = at.n200;
         let n100 = at.n100;
         let rest = at.left.minus(top);
-        let all = at.points.plus(top.times(plan.a)).plus(rest.times(plan.c));
         self.offer(
             Spread {
                 top: top,
@@ -158,23 +185,23 @@ impl Best {
                 n100: n100,
                 rest: rest,
             },
-            all,
-            plan.target,
+            dist,
         )
     }
 
-    // Both candidates of a setting: lo, then lo + 1.
+    // Both candidates of a setting: lo, then lo + 1, which has a − c points more.
     fn both(self, plan: Plan, at: Setting) -> Best
         requires { ⌜ PointsFit plan at × Ready plan (bothOf plan at) self × (Walk.over (view self) ≡ false) ⌝ }
         ensures { λ r. ⌜ view r ≡ Walk.settle (plan .target .0) (bothOf plan at) (view self) ⌝ }
     {
-        let lo = lowest(plan, at);
-        let next = self.attempt(plan, at, lo);
+        let low = lowest(plan, at);
+        let next = self.attempt(at, low.top, low.below.plus(low.above));
         if next.over() {
             return next;
         }
-        if lo.less(at.left) {
-            return next.attempt(plan, at, lo.plus(Hits(1)));
+        if low.top.less(at.left) {
+            let dist = low.above.plus(Points(plan.a - plan.c)).minus(low.below);
+            return next.attempt(at, low.top.plus(Hits(1)), dist);
         }
         next
     }

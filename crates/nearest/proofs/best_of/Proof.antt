@@ -6,6 +6,7 @@ use borrow.Author.Needs.{needs}
 use Rattle.inspect.specs.Presence.{lacking}
 use Rattle.inspect.proofs.Lacking.{is-nothing, is-one}
 use Rattle.nearest_laws.specs.Walk.{Best, over, settle}
+use Rattle.nearest_laws.proofs.Low.{all-points}
 use Rattle.nearest_laws.proofs.Search.{three-count}
 use Rattle.walk.specs.Code.{view, middleOf}
 use Rattle.plan.proofs.Missing.{two-missing}
@@ -21,7 +22,7 @@ untried : (c : tie.After-fresh) → c .fresh .result .tried ≡ 0
 untried c = ap (λ (b : Best). b .tried) (c .fresh .ensures)
 
 attempt-requires : tie.Need-attempt-requires
-attempt-requires c κs = let h = c .before .before .before .before .pre in (h .order, h .points, omega arith, omega (arith, untried (c .before .before .before)))
+attempt-requires c κs = (omega arith, omega (arith, untried (c .before .before .before .before .before .before)))
 
 each-n300-requires : tie.Need-each-n300-requires
 each-n300-requires c κs =
@@ -46,8 +47,11 @@ returns c = rw (is-nothing (lacking (c .before .before .before .before .args .pr
 returns-2 : tie.Need-returns-2
 unfolding settle over
 returns-2 c =
-    rw (is-one (lacking (c .before .before .before .before .before .args .presence)) (sym (c .before .enum-told2 .given .1) ∙ c .before .before .before .missing-of .ensures))
-    (rw (c .before .before .before .before .fresh .ensures) at (c .attempt .ensures))
+    let x = c .before .before .before .before .before .before .before .before .args in
+    rw (is-one (lacking (x .presence)) (sym (c .before .before .before .before .enum-told2 .given .1) ∙ c .before .before .before .before .before .before .missing-of .ensures))
+    (rw (c .before .before .before .before .before .before .before .fresh .ensures)
+    at (c .attempt .ensures (x .plan)
+    (rw (c .before .gap .ensures, c .before .before .plus .ensures, c .before .before .before .times .ensures, all-points))))
 
 returns-3 : tie.Need-returns-3
 returns-3 c =
@@ -63,6 +67,9 @@ best-of-spec =
     (λ c κs. search needs)
     (λ c. search needs)
     (λ c. search needs)
+    (λ c κs. omega (arith, c .before .before .before .before .pre .points))
+    (λ c κs. omega (arith, c .before .before .before .before .before .pre .points))
+    (λ c κs. search needs)
     attempt-requires
     each-n300-requires
     returns
