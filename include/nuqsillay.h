@@ -70,17 +70,19 @@ uint32_t nuqsillay_accuracy(uint32_t n320, uint32_t n300, uint32_t n200, uint32_
 uint32_t nuqsillay_target(uint32_t n_objects, uint32_t n_hold_notes, bool classic, uint8_t presence, uint32_t misses,
                           uint32_t passed, double acc, uint32_t *out, size_t out_len);
 
-/* The direct call: the split of one play. out, of at least 7 numbers: out[0] n320, out[1] n300, out[2] n200, out[3] n100,
- * out[4] n50, out[5] misses, out[6] tried (the candidates that Nearest tried, 0 for the others).
+/* The direct call: the split of one play. out, of at least 8 numbers: out[0] n320, out[1] n300, out[2] n200, out[3] n100,
+ * out[4] n50, out[5] misses, out[6] tried (the candidates that Nearest tried, 0 for the others), out[7] left: for Nearest the
+ * rounded target minus the points of the five counts, as an int32_t (negative where the points are above the target), 0 for the
+ * others.
  * Refused by 5, 7, 8, 10, 11, then Closest by 12, Nearest by 13, 14, in that order. */
 uint32_t nuqsillay_generate(uint32_t n_objects, uint32_t n_hold_notes, uint8_t method, uint8_t priority, bool classic,
                             uint8_t presence, uint32_t n320, uint32_t n300, uint32_t n200, uint32_t n100, uint32_t n50,
                             uint32_t misses, uint32_t passed, double acc, uint32_t *out, size_t out_len);
 
-/* Works a sheet: every row's answer to out, 32 bytes each, as eight little-endian u32: status, then the seven of
- * nuqsillay_generate. A row's status is 0, or 6 to 14 with zeros after it; the next row is worked all the same. Bytes past the
- * last answer stay. Refused by 1 to 5: each section's count is judged (2, 3) before its records (1), then 4, then 5. sheet and
- * out must not overlap.
+/* Works a sheet: every row's answer to out, 36 bytes each, as nine little-endian fields: status u32, then the eight of
+ * nuqsillay_generate, seven u32 and left i32. A row's status is 0, or 6 to 14 with zeros after it; the next row is worked all
+ * the same. Bytes past the last answer stay. Refused by 1 to 5: each section's count is judged (2, 3) before its records (1),
+ * then 4, then 5. sheet and out must not overlap.
  *
  * A sheet, little-endian: the number of charts (u32, at most 256), the charts (8 bytes: objects u32, hold notes u32), the number
  * of queries (u32, at most 1,024), the queries (44 bytes):

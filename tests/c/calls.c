@@ -8,12 +8,12 @@
 
 #include "nuqsillay.h"
 
-enum { RECORD = 80, PLACES = 9 };
+enum { RECORD = 84, VALUES = 8, PLACES = 10 };
 
 /* What stands in an output before a call. */
 #define BEFORE 0x5E171CEDu
-/* A tried that document 01 does not tell. */
-#define ANY UINT32_MAX
+/* A value that is not told. No value is this one: the bits of a left of -1 are UINT32_MAX. */
+#define ANY 0x80000000u
 
 struct query {
     uint32_t n_objects, n_hold_notes;
@@ -87,7 +87,7 @@ static void check_record(const uint8_t *s, long number)
 {
     uint8_t kind = s[0];
     uint64_t acc = u64_at(s + 40);
-    uint32_t six[6], status = u32_at(s + 48), values[7];
+    uint32_t six[6], status = u32_at(s + 48), values[VALUES];
     struct query q = {
         .n_objects = u32_at(s + 4), .n_hold_notes = u32_at(s + 8), .method = kind - 2, .priority = s[1],
         .classic = s[2], .presence = s[3], .misses = u32_at(s + 32), .passed = u32_at(s + 36),
@@ -96,7 +96,7 @@ static void check_record(const uint8_t *s, long number)
     for (int i = 0; i < 6; i++)
         six[i] = u32_at(s + 12 + 4 * i);
     memcpy(q.n, six, sizeof q.n);
-    for (int i = 0; i < 7; i++)
+    for (int i = 0; i < VALUES; i++)
         values[i] = u32_at(s + 52 + 4 * i);
 
     if (kind == 0) {
@@ -106,7 +106,7 @@ static void check_record(const uint8_t *s, long number)
         uint32_t four[4] = {values[0], values[1], values[0] - values[1], values[2]};
         check_outputs(target, &q, 4, status, four, "record", number);
     } else {
-        check_outputs(generate, &q, 7, status, values, "record", number);
+        check_outputs(generate, &q, VALUES, status, values, "record", number);
     }
 }
 
@@ -135,36 +135,36 @@ struct play {
     uint8_t presence;
     uint32_t n[5], misses;
     double acc;
-    uint32_t status, values[7];
+    uint32_t status, values[VALUES];
 };
 
 #define LAST_THREE (NUQSILLAY_HAS_N200 | NUQSILLAY_HAS_N100 | NUQSILLAY_HAS_N50)
 #define FIRST_THREE (NUQSILLAY_HAS_N320 | NUQSILLAY_HAS_N300 | NUQSILLAY_HAS_N200)
 
 static const struct play plays[] = {
-    {'A', NUQSILLAY_CLOSEST, 0, false, 20, NUQSILLAY_HAS_ACC | LAST_THREE, {0}, 0, 1208.0 / 1220, 0, {8, 12, 0, 0, 0, 0, 0}},
-    {'A', NUQSILLAY_NEAREST, 0, false, 20, NUQSILLAY_HAS_ACC | LAST_THREE, {0}, 0, 1208.0 / 1220, 0, {8, 12, 0, 0, 0, 0, 1}},
-    {'B', NUQSILLAY_CLOSEST, 0, true, 5, NUQSILLAY_HAS_ACC | LAST_THREE, {0}, 0, 1, 0, {2, 3, 0, 0, 0, 0, 0}},
-    {'B', NUQSILLAY_NEAREST, 0, true, 5, NUQSILLAY_HAS_ACC | LAST_THREE, {0}, 0, 1, 0, {5, 0, 0, 0, 0, 0, 1}},
-    {'C', NUQSILLAY_CLOSEST, 0, false, 20, NUQSILLAY_HAS_ACC, {0}, 0, 705.0 / 1220, 0, {9, 0, 0, 5, 6, 0, 0}},
-    {'C', NUQSILLAY_NEAREST, 0, false, 20, NUQSILLAY_HAS_ACC, {0}, 0, 705.0 / 1220, 0, {5, 0, 5, 10, 0, 0, ANY}},
-    {'D', NUQSILLAY_CLOSEST, 0, false, 5, NUQSILLAY_HAS_ACC | NUQSILLAY_HAS_N200, {0, 0, 9, 0, 0}, 0, 1, 0, {0, 0, 9, 0, 5, 0, 0}},
+    {'A', NUQSILLAY_CLOSEST, 0, false, 20, NUQSILLAY_HAS_ACC | LAST_THREE, {0}, 0, 1208.0 / 1220, 0, {8, 12, 0, 0, 0, 0, 0, 0}},
+    {'A', NUQSILLAY_NEAREST, 0, false, 20, NUQSILLAY_HAS_ACC | LAST_THREE, {0}, 0, 1208.0 / 1220, 0, {8, 12, 0, 0, 0, 0, 1, 0}},
+    {'B', NUQSILLAY_CLOSEST, 0, true, 5, NUQSILLAY_HAS_ACC | LAST_THREE, {0}, 0, 1, 0, {2, 3, 0, 0, 0, 0, 0, 0}},
+    {'B', NUQSILLAY_NEAREST, 0, true, 5, NUQSILLAY_HAS_ACC | LAST_THREE, {0}, 0, 1, 0, {5, 0, 0, 0, 0, 0, 1, 0}},
+    {'C', NUQSILLAY_CLOSEST, 0, false, 20, NUQSILLAY_HAS_ACC, {0}, 0, 705.0 / 1220, 0, {9, 0, 0, 5, 6, 0, 0, 0}},
+    {'C', NUQSILLAY_NEAREST, 0, false, 20, NUQSILLAY_HAS_ACC, {0}, 0, 705.0 / 1220, 0, {5, 0, 5, 10, 0, 0, ANY, 0}},
+    {'D', NUQSILLAY_CLOSEST, 0, false, 5, NUQSILLAY_HAS_ACC | NUQSILLAY_HAS_N200, {0, 0, 9, 0, 0}, 0, 1, 0, {0, 0, 9, 0, 5, 0, 0, 0}},
     {'D', NUQSILLAY_NEAREST, 0, false, 5, NUQSILLAY_HAS_ACC | NUQSILLAY_HAS_N200, {0, 0, 9, 0, 0}, 0, 1, 14, {0}},
-    {'E', NUQSILLAY_CLOSEST, 0, false, 20, NUQSILLAY_HAS_ACC | NUQSILLAY_HAS_N320 | NUQSILLAY_HAS_N300, {0}, 0, 1, 0, {0, 0, 0, 0, 20, 0, 0}},
-    {'E', NUQSILLAY_NEAREST, 0, false, 20, NUQSILLAY_HAS_ACC | NUQSILLAY_HAS_N320 | NUQSILLAY_HAS_N300, {0}, 0, 1, 0, {0, 0, 20, 0, 0, 0, 3}},
-    {'F', NUQSILLAY_FAST, 0, false, 10, NUQSILLAY_HAS_ACC, {0}, 0, 0.5, 0, {4, 0, 0, 0, 6, 0, 0}},
-    {'G', NUQSILLAY_IGNORE_ACCURACY, 0, false, 10, NUQSILLAY_HAS_MISSES | NUQSILLAY_HAS_N100, {0, 0, 0, 3, 0}, 2, 0, 0, {5, 0, 0, 3, 0, 2, 0}},
-    {'G', NUQSILLAY_IGNORE_ACCURACY, 1, false, 10, NUQSILLAY_HAS_MISSES | NUQSILLAY_HAS_N100, {0, 0, 0, 3, 0}, 2, 0, 0, {0, 0, 0, 3, 5, 2, 0}},
-    {'H', NUQSILLAY_FAST, 0, false, 4, NUQSILLAY_HAS_ACC | NUQSILLAY_HAS_MISSES, {0}, 9, 1, 0, {0, 0, 0, 0, 0, 4, 0}},
-    {'H', NUQSILLAY_CLOSEST, 0, false, 4, NUQSILLAY_HAS_ACC | NUQSILLAY_HAS_MISSES, {0}, 9, 1, 0, {0, 0, 0, 0, 0, 4, 0}},
-    {'H', NUQSILLAY_NEAREST, 0, false, 4, NUQSILLAY_HAS_ACC | NUQSILLAY_HAS_MISSES, {0}, 9, 1, 0, {0, 0, 0, 0, 0, 4, 1}},
+    {'E', NUQSILLAY_CLOSEST, 0, false, 20, NUQSILLAY_HAS_ACC | NUQSILLAY_HAS_N320 | NUQSILLAY_HAS_N300, {0}, 0, 1, 0, {0, 0, 0, 0, 20, 0, 0, 0}},
+    {'E', NUQSILLAY_NEAREST, 0, false, 20, NUQSILLAY_HAS_ACC | NUQSILLAY_HAS_N320 | NUQSILLAY_HAS_N300, {0}, 0, 1, 0, {0, 0, 20, 0, 0, 0, 3, 420}},
+    {'F', NUQSILLAY_FAST, 0, false, 10, NUQSILLAY_HAS_ACC, {0}, 0, 0.5, 0, {4, 0, 0, 0, 6, 0, 0, 0}},
+    {'G', NUQSILLAY_IGNORE_ACCURACY, 0, false, 10, NUQSILLAY_HAS_MISSES | NUQSILLAY_HAS_N100, {0, 0, 0, 3, 0}, 2, 0, 0, {5, 0, 0, 3, 0, 2, 0, 0}},
+    {'G', NUQSILLAY_IGNORE_ACCURACY, 1, false, 10, NUQSILLAY_HAS_MISSES | NUQSILLAY_HAS_N100, {0, 0, 0, 3, 0}, 2, 0, 0, {0, 0, 0, 3, 5, 2, 0, 0}},
+    {'H', NUQSILLAY_FAST, 0, false, 4, NUQSILLAY_HAS_ACC | NUQSILLAY_HAS_MISSES, {0}, 9, 1, 0, {0, 0, 0, 0, 0, 4, 0, 0}},
+    {'H', NUQSILLAY_CLOSEST, 0, false, 4, NUQSILLAY_HAS_ACC | NUQSILLAY_HAS_MISSES, {0}, 9, 1, 0, {0, 0, 0, 0, 0, 4, 0, 0}},
+    {'H', NUQSILLAY_NEAREST, 0, false, 4, NUQSILLAY_HAS_ACC | NUQSILLAY_HAS_MISSES, {0}, 9, 1, 0, {0, 0, 0, 0, 0, 4, 1, 244}},
     {'I', NUQSILLAY_CLOSEST, 0, false, 5, NUQSILLAY_HAS_ACC | FIRST_THREE, {3, 3, 0, 0, 0}, 0, 1, 12, {0}},
-    {'I', NUQSILLAY_CLOSEST, 0, false, 5, NUQSILLAY_HAS_ACC | FIRST_THREE, {3, 2, 0, 0, 0}, 0, 1, 0, {3, 2, 0, 0, 0, 0, 0}},
-    {'J', NUQSILLAY_IGNORE_ACCURACY, 0, false, 100000, 0, {0}, 0, 0, 0, {100000, 0, 0, 0, 0, 0, 0}},
+    {'I', NUQSILLAY_CLOSEST, 0, false, 5, NUQSILLAY_HAS_ACC | FIRST_THREE, {3, 2, 0, 0, 0}, 0, 1, 0, {3, 2, 0, 0, 0, 0, 0, 0}},
+    {'J', NUQSILLAY_IGNORE_ACCURACY, 0, false, 100000, 0, {0}, 0, 0, 0, {100000, 0, 0, 0, 0, 0, 0, 0}},
     {'J', NUQSILLAY_IGNORE_ACCURACY, 0, false, 100001, 0, {0}, 0, 0, 7, {0}},
-    {'J', NUQSILLAY_IGNORE_ACCURACY, 0, false, 20, NUQSILLAY_HAS_N50, {0, 0, 0, 0, 1000000}, 0, 0, 0, {0, 0, 0, 0, 20, 0, 0}},
+    {'J', NUQSILLAY_IGNORE_ACCURACY, 0, false, 20, NUQSILLAY_HAS_N50, {0, 0, 0, 0, 1000000}, 0, 0, 0, {0, 0, 0, 0, 20, 0, 0, 0}},
     {'J', NUQSILLAY_IGNORE_ACCURACY, 0, false, 20, NUQSILLAY_HAS_N50, {0, 0, 0, 0, 1000001}, 0, 0, 10, {0}},
-    {'K', NUQSILLAY_FAST, 0, false, 20, NUQSILLAY_HAS_ACC, {0}, 0, 1, 0, {20, 0, 0, 0, 0, 0, 0}},
+    {'K', NUQSILLAY_FAST, 0, false, 20, NUQSILLAY_HAS_ACC, {0}, 0, 1, 0, {20, 0, 0, 0, 0, 0, 0, 0}},
     {'K', NUQSILLAY_FAST, 0, false, 20, NUQSILLAY_HAS_ACC, {0}, 0, 1 + 0x1p-52, 11, {0}},
 };
 
@@ -183,39 +183,39 @@ static void check_plays(void)
     for (size_t i = 0; i < sizeof plays / sizeof *plays; i++) {
         struct query q = query_of(&plays[i]);
         char what[] = {'p', 'l', 'a', 'y', ' ', plays[i].label, '\0'};
-        check_outputs(generate, &q, 7, plays[i].status, plays[i].values, what, (long)i);
+        check_outputs(generate, &q, VALUES, plays[i].status, plays[i].values, what, (long)i);
     }
 }
 
 /* Each later check broken after the earlier ones, so that the earlier one must answer. */
 static void check_order(void)
 {
-    const uint32_t nothing[7] = {0};
+    const uint32_t nothing[VALUES] = {0};
     struct query q = {.n_objects = 5, .method = NUQSILLAY_NEAREST, .presence = FIRST_THREE, .n = {3, 3, 0, 0, 0}};
-    check_outputs(generate, &q, 7, 13, nothing, "order", 13);
+    check_outputs(generate, &q, VALUES, 13, nothing, "order", 13);
     q.presence |= NUQSILLAY_HAS_ACC;
-    check_outputs(generate, &q, 7, 14, nothing, "order", 14);
+    check_outputs(generate, &q, VALUES, 14, nothing, "order", 14);
     q.method = NUQSILLAY_CLOSEST;
-    check_outputs(generate, &q, 7, 12, nothing, "order", 12);
+    check_outputs(generate, &q, VALUES, 12, nothing, "order", 12);
 
     const double outside[] = {NAN, -NAN, INFINITY, -INFINITY, -0x1p-1074, 1 + 0x1p-52};
     for (size_t i = 0; i < sizeof outside / sizeof *outside; i++) {
         q.acc = outside[i];
-        check_outputs(generate, &q, 7, 11, nothing, "acc", (long)i);
+        check_outputs(generate, &q, VALUES, 11, nothing, "acc", (long)i);
         check_outputs(target, &q, 4, 11, nothing, "acc of target", (long)i);
     }
 
     q.n[1] = 1000001;
-    check_outputs(generate, &q, 7, 10, nothing, "order", 10);
+    check_outputs(generate, &q, VALUES, 10, nothing, "order", 10);
     q.priority = 2;
-    check_outputs(generate, &q, 7, 8, nothing, "order", 8);
+    check_outputs(generate, &q, VALUES, 8, nothing, "order", 8);
     q.priority = 0;
     for (int method = 4; method <= UINT8_MAX; method++) {
         q.method = (uint8_t)method;
-        check_outputs(generate, &q, 7, 8, nothing, "method", method);
+        check_outputs(generate, &q, VALUES, 8, nothing, "method", method);
     }
     q.n_hold_notes = 100001;
-    check_outputs(generate, &q, 7, 7, nothing, "order", 7);
+    check_outputs(generate, &q, VALUES, 7, nothing, "order", 7);
 }
 
 /* Numbers in missing fields are not looked at; -0.0 is 0; hold notes count in full for a shortened play. */
@@ -224,29 +224,62 @@ static void check_fields(void)
     struct query q = {
         .n_objects = 20, .method = NUQSILLAY_FAST, .n = {ANY, ANY, ANY, ANY, ANY}, .misses = ANY, .passed = 3, .acc = NAN,
     };
-    check_outputs(generate, &q, 7, 0, (uint32_t[]){20, 0, 0, 0, 0, 0, 0}, "missing fields", 0);
+    check_outputs(generate, &q, VALUES, 0, (uint32_t[]){20, 0, 0, 0, 0, 0, 0, 0}, "missing fields", 0);
 
     struct query zero = {.n_objects = 20, .method = NUQSILLAY_NEAREST, .presence = NUQSILLAY_HAS_ACC, .acc = -0.0};
-    check_outputs(generate, &zero, 7, 0, (uint32_t[]){0, 0, 0, 0, 20, 0, ANY}, "acc", 0);
+    check_outputs(generate, &zero, VALUES, 0, (uint32_t[]){0, 0, 0, 0, 20, 0, ANY, -200u}, "acc", 0);
     check_outputs(target, &zero, 4, 0, (uint32_t[]){20, 0, 20, 0}, "acc of target", 0);
 
     struct query holds = {.n_objects = 20, .n_hold_notes = 7, .presence = NUQSILLAY_HAS_PASSED | NUQSILLAY_HAS_MISSES, .passed = 5, .misses = 2, .acc = 1};
-    check_outputs(generate, &holds, 7, 0, (uint32_t[]){10, 0, 0, 0, 0, 2, 0}, "holds", 0);
+    check_outputs(generate, &holds, VALUES, 0, (uint32_t[]){10, 0, 0, 0, 0, 2, 0, 0}, "holds", 0);
     check_outputs(target, &holds, 4, 0, (uint32_t[]){12, 2, 10, 732}, "holds of target", 0);
     holds.classic = true;
-    check_outputs(generate, &holds, 7, 0, (uint32_t[]){3, 0, 0, 0, 0, 2, 0}, "holds", 1);
+    check_outputs(generate, &holds, VALUES, 0, (uint32_t[]){3, 0, 0, 0, 0, 2, 0, 0}, "holds", 1);
     check_outputs(target, &holds, 4, 0, (uint32_t[]){5, 2, 3, 300}, "holds of target", 1);
+}
+
+/* What Nearest leaves of the target, its points below or above it, on the largest charts too. The other methods leave 0. */
+static void check_left(void)
+{
+    const uint8_t five = NUQSILLAY_HAS_N320 | NUQSILLAY_HAS_N300 | LAST_THREE;
+    const struct {
+        struct query q;
+        uint32_t values[VALUES];
+    } rows[] = {
+        {{.n_objects = 1, .acc = 9.0 / 61}, {0, 0, 0, 0, 1, 0, ANY, -1u}},
+        {{.n_objects = 1, .acc = 11.0 / 61}, {0, 0, 0, 0, 1, 0, ANY, 1}},
+        {{.n_objects = 20, .presence = five, .n = {20}, .acc = 0}, {20, 0, 0, 0, 0, 0, 0, -1220u}},
+        {{.n_objects = 20, .presence = five, .n = {0, 0, 0, 0, 20}, .acc = 1}, {0, 0, 0, 0, 20, 0, 0, 1020}},
+        {{.n_objects = 20, .presence = NUQSILLAY_HAS_MISSES, .misses = 20, .acc = 1}, {0, 0, 0, 0, 0, 20, 1, 1220}},
+        {{.n_objects = 100000, .n_hold_notes = 100000, .acc = 0}, {0, 0, 0, 0, 200000, 0, ANY, -2000000u}},
+        {{.n_objects = 100000, .n_hold_notes = 100000, .presence = NUQSILLAY_HAS_N50, .n = {0, 0, 0, 0, 200000}, .acc = 1},
+         {0, 0, 0, 0, 200000, 0, 1, 10200000}},
+        {{.n_objects = 100000, .n_hold_notes = 100000, .presence = five, .n = {200000}, .acc = 0},
+         {200000, 0, 0, 0, 0, 0, 0, -12200000u}},
+        {{.n_objects = 100000, .n_hold_notes = 100000, .presence = NUQSILLAY_HAS_MISSES, .misses = 200000, .acc = 1},
+         {0, 0, 0, 0, 0, 200000, 1, 12200000}},
+    };
+    const uint32_t others[VALUES] = {ANY, ANY, ANY, ANY, ANY, ANY, 0, 0};
+
+    for (size_t i = 0; i < sizeof rows / sizeof *rows; i++) {
+        struct query q = rows[i].q;
+        q.presence |= NUQSILLAY_HAS_ACC;
+        for (q.method = 0; q.method < NUQSILLAY_NEAREST; q.method++)
+            check_outputs(generate, &q, VALUES, 0, others, "left of another method", (long)i);
+        check_outputs(generate, &q, VALUES, 0, rows[i].values, "left", (long)i);
+    }
 }
 
 int main(int argc, char **argv)
 {
     if (argc != 2 || !check_list(argv[1])) {
-        fputs("calls: no list of records of 80 bytes\n", stderr);
+        fputs("calls: no list of records of 84 bytes\n", stderr);
         return 2;
     }
     check_plays();
     check_order();
     check_fields();
+    check_left();
 
     printf("calls: %u checked, %u differ\n", checked, differ);
     return differ != 0;

@@ -1,5 +1,5 @@
 /* sheets: checks what the library's sheet call answers and what it leaves in the output: document 01's example, a row for each
- * status, outputs of every length, sheets cut at every byte, and counts past their limits.
+ * status, points left over, outputs of every length, sheets cut at every byte, and counts past their limits.
  * Prints 'sheets: N checked, D differ'; ends with 1 if any differs. */
 #include <math.h>
 #include <stdio.h>
@@ -7,7 +7,7 @@
 
 #include "nuqsillay.h"
 
-enum { COUNT = 4, CHART = 8, QUERY = 44, ANSWER = 32, MOST = 47112, ROOM = 64 };
+enum { COUNT = 4, CHART = 8, QUERY = 44, FIELDS = 9, ANSWER = 4 * FIELDS, MOST = 47112, ROOM = 64 };
 
 /* What stands in an output before a call. */
 enum { BEFORE = 0xA5 };
@@ -87,12 +87,12 @@ static void check_refused(const struct sheet *s, size_t sheet_len, size_t out_le
 }
 
 /* A whole sheet: its answers with outputs of every length, and every cut of it. */
-static void check_sheet(struct sheet *s, const uint32_t (*rows)[8], size_t count, const char *what)
+static void check_sheet(struct sheet *s, const uint32_t (*rows)[FIELDS], size_t count, const char *what)
 {
     static struct sheet answers;
     answers.len = 0;
     for (size_t i = 0; i < count; i++)
-        for (int field = 0; field < 8; field++)
+        for (int field = 0; field < FIELDS; field++)
             put(&answers, rows[i][field], 4);
 
     for (size_t len = 0; len < answers.len; len++)
@@ -117,16 +117,39 @@ static void check_example(void)
     put(&s, 2, 4);
     put_query(&s, &e);
     put_query(&s, &bare);
-    check_sheet(&s, (const uint32_t[2][8]){{0, 0, 0, 20, 0, 0, 0, 3}, {13}}, 2, "example");
+    check_sheet(&s, (const uint32_t[2][FIELDS]){{0, 0, 0, 20, 0, 0, 0, 3, 420}, {13}}, 2, "example");
 }
 
-/* A row for each status. Each is stopped by the checks after its own as well, as far as one row can be. */
+/* All but n50 given, so that Nearest has one split. */
+enum { ONE_SPLIT = NUQSILLAY_HAS_N320 | NUQSILLAY_HAS_N300 | NUQSILLAY_HAS_N200 | NUQSILLAY_HAS_N100 | NUQSILLAY_HAS_ACC };
+
+/* One row, whose points are one above the target. A caller copies the bytes of left to an int32_t. */
+static void check_left(void)
+{
+    static struct sheet s;
+    const uint32_t charts[1][2] = {{1, 0}};
+    const struct query q = {.method = NUQSILLAY_NEAREST, .presence = ONE_SPLIT, .acc = 9.0 / 61};
+    put_charts(&s, 1, charts);
+    put(&s, 1, 4);
+    put_query(&s, &q);
+    check_sheet(&s, (const uint32_t[1][FIELDS]){{0, 0, 0, 0, 0, 1, 0, 1, UINT32_MAX}}, 1, "left");
+
+    uint8_t out[ANSWER] = {0};
+    int32_t left;
+    uint32_t status = nuqsillay_work_sheet(s.bytes, s.len, out, sizeof out);
+    memcpy(&left, out + ANSWER - sizeof left, sizeof left);
+    check(status == 0 && left == -1, "left as an int32_t", 0);
+}
+
+/* A row that leaves points, then one for each status. Each is stopped by the checks after its own as well, as far as one row can
+ * be. */
 static void check_statuses(void)
 {
     static struct sheet s;
     const uint32_t charts[3][2] = {{5, 0}, {100001, 0}, {0, 100001}};
     const uint8_t first_three = NUQSILLAY_HAS_N320 | NUQSILLAY_HAS_N300 | NUQSILLAY_HAS_N200;
     const struct query rows[] = {
+        {.method = NUQSILLAY_NEAREST, .presence = ONE_SPLIT, .acc = 0},
         {.chart = 3, .method = 4, .zero = 1, .presence = NUQSILLAY_HAS_N320, .n = {1000001}},
         {.chart = 65535, .method = 4, .zero = 1, .presence = NUQSILLAY_HAS_N320, .n = {1000001}},
         {.chart = 1, .method = 4, .zero = 1, .presence = NUQSILLAY_HAS_N320, .n = {1000001}},
@@ -155,9 +178,10 @@ static void check_statuses(void)
     for (size_t i = 0; i < count; i++)
         put_query(&s, &rows[i]);
 
-    check_sheet(&s, (const uint32_t[][8]){
+    check_sheet(&s, (const uint32_t[][FIELDS]){
+        {0, 0, 0, 0, 0, 5, 0, 1, -50u},
         {6}, {6}, {7}, {7}, {8}, {8}, {8}, {9}, {9}, {9}, {9}, {9}, {10}, {10}, {11}, {11}, {12}, {13}, {14},
-        {0, 3, 2, 0, 0, 0, 0, 0}, {0, 0, 0, 0, 0, 0, 5, 0},
+        {0, 3, 2, 0, 0, 0, 0, 0, 0}, {0, 0, 0, 0, 0, 0, 5, 0, 0},
     }, count, "statuses");
 }
 
@@ -198,6 +222,7 @@ static void check_limits(void)
 int main(void)
 {
     check_example();
+    check_left();
     check_statuses();
     check_limits();
 

@@ -4,40 +4,42 @@ use mathlib.Core.Path.{_≡_, refl, ap, sym, _∙_}
 use mathlib.Core.List.{List, [], _∷_}
 use Prim.Native.Nat.{ℕ, zero, suc, _+_, _*_, _<_}
 use native.Mathlib.Omega.{arith}
+use lib.IntN.{ℤ}
 use lib.ListN.{length}
 use Rattle.lists.specs.Lists.{put}
 use Rattle.little_endian.specs.Bytes.{u32At, bytes4}
 use Rattle.little_endian.proofs.Put.{bytes4-back}
 use Rattle.score_state.specs.declared.HitResults.{HitResults}
 use Rattle.score_state.specs.Answer.{Answer, statusOf}
+use Rattle.points_left.specs.Left.{bitsOf}
 use Rattle.generate.specs.Generated.{generatedOf}
 use Rattle.generate.specs.declared.Generated.{Generated}
 use Rattle.generate.specs.declared.Generated.the-variants.{Counts, Refused}
 use Rattle.answers.specs.Answers.{fieldBytes, answerBytes, value}
 
 pub put-counts
-    : (s : List ℕ) (at : ℕ) (g : Generated) (c : HitResults) (tried : ℕ) (out : List ℕ) → g ≡ Counts c tried
-    → out ≡ put s at (fieldBytes 0 (c .n320 ∷ c .n300 ∷ c .n200 ∷ c .n100 ∷ c .n50 ∷ c .misses ∷ tried ∷ [])) → out ≡ put s at (answerBytes (generatedOf g))
+    : (s : List ℕ) (at : ℕ) (g : Generated) (c : HitResults) (tried : ℕ) (left : ℤ) (bits : ℕ) (out : List ℕ) → g ≡ Counts c tried left → bits ≡ bitsOf left
+    → out ≡ put s at (fieldBytes 0 (c .n320 ∷ c .n300 ∷ c .n200 ∷ c .n100 ∷ c .n50 ∷ c .misses ∷ tried ∷ bits ∷ [])) → out ≡ put s at (answerBytes (generatedOf g))
 unfolding answerBytes
-put-counts s at g c tried out e p = p ∙ ap (λ (x : Generated). put s at (answerBytes (generatedOf x))) (sym e)
+put-counts s at g c tried left bits out e eb p = p ∙ rw eb refl ∙ ap (λ (x : Generated). put s at (answerBytes (generatedOf x))) (sym e)
 
--- a refused answer has seven zeros
+-- a refused answer has eight zeros
 pub put-refused
     : (s : List ℕ) (at : ℕ) (g : Generated) (n : ℕ) (out : List ℕ) → g ≡ Refused n
-    → out ≡ put s at (fieldBytes n (0 ∷ 0 ∷ 0 ∷ 0 ∷ 0 ∷ 0 ∷ 0 ∷ [])) → out ≡ put s at (answerBytes (generatedOf g))
+    → out ≡ put s at (fieldBytes n (0 ∷ 0 ∷ 0 ∷ 0 ∷ 0 ∷ 0 ∷ 0 ∷ 0 ∷ [])) → out ≡ put s at (answerBytes (generatedOf g))
 unfolding answerBytes fieldBytes
 put-refused s at g n out e p = p ∙ ap (λ (x : Generated). put s at (answerBytes (generatedOf x))) (sym e)
 
-pub length-answer : (a : Answer (List ℕ)) → length (answerBytes a) ≡ 32
+pub length-answer : (a : Answer (List ℕ)) → length (answerBytes a) ≡ 36
 unfolding answerBytes fieldBytes bytes4
 length-answer a = refl
 
--- ---- the eight numbers of an answer's 32 bytes
+-- ---- the nine numbers of an answer's 36 bytes
 pub status-back : (a : Answer (List ℕ)) → statusOf a < 4294967296 → u32At (answerBytes a) 0 ≡ statusOf a
 unfolding answerBytes fieldBytes bytes4
 status-back a h = bytes4-back (statusOf a) h
 
-value-at : (a : Answer (List ℕ)) (k : ℕ) → k < 7 → u32At (answerBytes a) (4 + 4 * k) ≡ u32At (bytes4 (value a k)) 0
+value-at : (a : Answer (List ℕ)) (k : ℕ) → k < 8 → u32At (answerBytes a) (4 + 4 * k) ≡ u32At (bytes4 (value a k)) 0
 unfolding answerBytes fieldBytes bytes4
 value-at a zero h = refl
 value-at a (suc zero) h = refl
@@ -46,7 +48,8 @@ value-at a (suc (suc (suc zero))) h = refl
 value-at a (suc (suc (suc (suc zero)))) h = refl
 value-at a (suc (suc (suc (suc (suc zero))))) h = refl
 value-at a (suc (suc (suc (suc (suc (suc zero)))))) h = refl
-value-at a (suc (suc (suc (suc (suc (suc (suc k))))))) h = absurd (omega arith)
+value-at a (suc (suc (suc (suc (suc (suc (suc zero))))))) h = refl
+value-at a (suc (suc (suc (suc (suc (suc (suc (suc k)))))))) h = absurd (omega arith)
 
-pub value-back : (a : Answer (List ℕ)) (k : ℕ) → k < 7 → value a k < 4294967296 → u32At (answerBytes a) (4 + 4 * k) ≡ value a k
+pub value-back : (a : Answer (List ℕ)) (k : ℕ) → k < 8 → value a k < 4294967296 → u32At (answerBytes a) (4 + 4 * k) ≡ value a k
 value-back a k m h = value-at a k m ∙ bytes4-back (value a k) h

@@ -1,13 +1,13 @@
 -- `handed` from its parts: an output too short, a refusal, and values stored one after the other. Assumes nothing.
-use mathlib.Core.Path.{_≡_, sym, ap, _∙_}
+use mathlib.Core.Path.{_≡_, refl, sym, ap, _∙_}
 use mathlib.Core.Bool.{Bool}
-use mathlib.Core.List.{List, [], _∷_, _++_}
+use mathlib.Core.List.{List, _++_}
 use Prim.Native.Nat.{ℕ, _+_, _≤_, _<_}
 use native.Mathlib.Nat.{zero-add}
 use native.Mathlib.Omega.{arith}
 use borrow.Author.Tests.{lt-ltb, le-ltb, ne-eqb}
 use lib.ListN.{length, drop, take}
-use lib.Seq.{sets, sets-eq}
+use lib.Seq.{sets, sets-eq, take-at}
 use Rattle.score_state.specs.Answer.{Answer, refused, worked, unless, statusOf, valuesOf}
 use Rattle.inspect.specs.declared.Query.{Query}
 use Rattle.generate_laws.specs.Generate.{generateAnswer}
@@ -39,10 +39,12 @@ handed-worked n vs a out h k e =
 pub told-refused : (n : ℕ) (vs : List ℕ) → 0 < n → answerIn n vs ≡ refused n
 told-refused n vs h = ap (λ (b : Bool). unless b n (worked vs)) (ne-eqb n 0 (λ (z : n ≡ 0). omega arith))
 
-pub told-worked : (a b c d e f g : ℕ) (out : List ℕ) → 7 ≤ length out → answerIn 0 (take 7 (sets out 0 (a ∷ b ∷ c ∷ d ∷ e ∷ f ∷ g ∷ []))) ≡ worked (a ∷ b ∷ c ∷ d ∷ e ∷ f ∷ g ∷ [])
-told-worked a b c d e f g out h = ap (λ (xs : List ℕ). answerIn 0 (take 7 xs)) (sets-eq (a ∷ b ∷ c ∷ d ∷ e ∷ f ∷ g ∷ []) out 0 h)
+pub told-worked : (vs out : List ℕ) → length vs ≤ length out → answerIn 0 (take (length vs) (sets out 0 vs)) ≡ worked vs
+told-worked vs out h =
+    let room : 0 + length vs ≤ length out = omega arith in
+    ap worked (ap (take (length vs)) (sets-eq vs out 0 room) ∙ take-at vs (drop (0 + length vs) out) (length vs) refl)
 
 -- what the direct call answers has no refusal by 0
 pub answer-numbered : (q : Query) (g : Generated) → generatedOf g ≡ generateAnswer q → Numbered g
-answer-numbered q (Counts c tried) e = tt
+answer-numbered q (Counts c tried left) e = tt
 answer-numbered q (Refused n) e = numbered q n e

@@ -40,7 +40,7 @@ answerIn status values = unless (eqb status 0) status (worked values)
 
 -- what `hand` asks of an answer: no refusal has the number 0 (`numbered` in generate_laws shows it of the direct call)
 abbrev pub Numbered : Generated → Type 0
-Numbered (Counts c tried) = Unit {0}
+Numbered (Counts c tried left) = Unit {0}
 Numbered (Refused n) = 0 < n
 
 -- an accuracy that its bit of presence says is given

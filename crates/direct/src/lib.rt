@@ -24,12 +24,12 @@ fn acc_of(presence: u8, acc: f64) -> Accuracy
 
 // An answer's values to the output, which has room for them.
 fn hand(g: Generated, out: &mut [u32]) -> u32
-    requires { ⌜ Numbered g ⌝ ∗ ⌜ 7 ≤ length (now out) ⌝ }
-    ensures { λ r. ⌜ lent r (now (out .exit)) ≡ handed 7 (generatedOf g) (now (out .entry)) ⌝ }
-    ensures { λ r. ⌜ answerIn r (take 7 (now (out .exit))) ≡ generatedOf g ⌝ }
+    requires { ⌜ Numbered g ⌝ ∗ ⌜ 8 ≤ length (now out) ⌝ }
+    ensures { λ r. ⌜ lent r (now (out .exit)) ≡ handed 8 (generatedOf g) (now (out .entry)) ⌝ }
+    ensures { λ r. ⌜ answerIn r (take 8 (now (out .exit))) ≡ generatedOf g ⌝ }
 {
     match g {
-        Generated::Counts(counts, tried) => {
+        Generated::Counts(counts, tried, left) => {
             out[0] = counts.n320;
             out[1] = counts.n300;
             out[2] = counts.n200;
@@ -37,13 +37,14 @@ fn hand(g: Generated, out: &mut [u32]) -> u32
             out[4] = counts.n50;
             out[5] = counts.misses;
             out[6] = tried;
+            out[7] = points_left::bits_of(left);
             0
         }
         Generated::Refused(n) => n,
     }
 }
 
-// 0 with the five counts, misses and tried in out, or the number that refuses: 5 where out has no room for them.
+// 0 with the five counts, misses, tried and the bits of left in out, or the number that refuses: 5 where out has no room for them.
 pub fn generate(
     objects: u32,
     holds: u32,
@@ -61,10 +62,10 @@ pub fn generate(
     acc: f64,
     out: &mut [u32],
 ) -> u32
-    ensures { λ r. ⌜ lent r (now (out .exit)) ≡ handed 7 (generateAnswer (queryBy objects holds method priority classic presence (sixCounts n320 n300 n200 n100 n50 misses) passed acc)) (now (out .entry)) ⌝ }
-    ensures { λ r. ⌜ (7 ≤ length (now (out .entry)) → answerIn r (take 7 (now (out .exit))) ≡ generateAnswer (queryBy objects holds method priority classic presence (sixCounts n320 n300 n200 n100 n50 misses) passed acc)) ⌝ }
+    ensures { λ r. ⌜ lent r (now (out .exit)) ≡ handed 8 (generateAnswer (queryBy objects holds method priority classic presence (sixCounts n320 n300 n200 n100 n50 misses) passed acc)) (now (out .entry)) ⌝ }
+    ensures { λ r. ⌜ (8 ≤ length (now (out .entry)) → answerIn r (take 8 (now (out .exit))) ≡ generateAnswer (queryBy objects holds method priority classic presence (sixCounts n320 n300 n200 n100 n50 misses) passed acc)) ⌝ }
 {
-    if out.len() < 7 {
+    if out.len() < 8 {
         return 5;
     }
     let accuracy = acc_of(presence, acc);

@@ -20,9 +20,10 @@ use nearest::Outcome;
 use score_state::HitResults;
 use units::Hits;
 
-// The six counts with tried, or the number that refuses and nothing else.
+// The six counts with tried and left, or the number that refuses and nothing else. left is T minus points for method 3, and 0 for the
+// others.
 pub enum Generated {
-    Counts(HitResults, u32),
+    Counts(HitResults, u32, i32),
     Refused(u32),
 }
 
@@ -33,7 +34,7 @@ fn closest_counts(q: Query, acc: f64) -> Generated
     ensures { λ r. ⌜ generatedOf r ≡ untried (closestAtF64 (inspectOf q) acc) ⌝ }
 {
     match closest::generate_hitresults(q, acc) {
-        Closest::Counts(counts) => Generated::Counts(counts, 0),
+        Closest::Counts(counts) => Generated::Counts(counts, 0, 0),
         Closest::Overfull => Generated::Refused(12),
     }
 }
@@ -68,7 +69,8 @@ fn nearest_counts(q: Query, acc: f64) -> Generated
                 five.n50,
                 missed,
             );
-            Generated::Counts(counts, split.tried)
+            let points = score_state::points_of(weights, counts);
+            Generated::Counts(counts, split.tried, points_left::left_of(target, points))
         }
         Outcome::NoSplit => Generated::Refused(14),
     }
@@ -82,7 +84,7 @@ fn at_acc(q: Query, method: u8, acc: f64) -> Generated
     ensures { λ r. ⌜ generatedOf r ≡ byMethod method (inspectOf q) ⌝ }
 {
     match method {
-        1 => Generated::Counts(fast::generate_hitresults(q, acc), 0),
+        1 => Generated::Counts(fast::generate_hitresults(q, acc), 0, 0),
         2 => closest_counts(q, acc),
         _ => nearest_counts(q, acc),
     }
@@ -109,7 +111,7 @@ fn by_method(q: Query, method: u8) -> Generated
     }
     let a = q.acc;
     if ignores_acc(method, a) {
-        return Generated::Counts(ignore_acc::generate_hitresults(q), 0);
+        return Generated::Counts(ignore_acc::generate_hitresults(q), 0, 0);
     }
     match a {
         Accuracy::Given(acc) => at_acc(q, method, acc),

@@ -1,25 +1,30 @@
 -- `answerBy` from its parts, for the proofs of the calls. Assumes nothing.
 use Prim.Native.Nat.{ℕ, zero, suc, _<_, _≤_}
-use mathlib.Core.Path.{_≡_, refl, sym, ap, _∙_}
+use mathlib.Core.Path.{_≡_, refl, sym, ap, ap₂, _∙_}
 use mathlib.Core.Bool.{Bool}
 use mathlib.Core.Option.{none, some}
 use native.Mathlib.Omega.{arith}
 use borrow.Author.Tests.{eq-eqb, ne-eqb}
 use lib.Ieee.{Float}
+use lib.IntN.{ℤ, subℕ}
 use mathlib.Core.List.{List, [], _∷_, _++_}
-use Rattle.score_state.specs.Points.{standard}
+use Rattle.units.specs.Limits.{mostHits, mostPoints}
+use Rattle.score_state.specs.Points.{hits, points, standard}
 use Rattle.score_state.specs.declared.HitResults.{HitResults}
-use Rattle.inspect.specs.Inspect.{Inspect, inspectOf, givens, misses, remain}
+use Rattle.inspect.specs.Inspect.{Inspect, inspectOf, givens, totalHits, misses, remain}
 use Rattle.inspect.specs.Checks.{stopOf}
 use Rattle.score_state.specs.Answer.{Answer, refused, worked, unless}
+use Rattle.points_left.specs.Left.{bitsOf}
 use Rattle.inspect.specs.declared.Query.{Query}
 use Rattle.ignore_acc.specs.IgnoreAcc.{ignoreAcc}
 use Rattle.fast.specs.Fast.{withAcc, byAcc}
 use Rattle.fast.proofs.Steps.{fast-given, fast-absent}
 use Rattle.closest_f64.specs.Rust.{closestAtF64}
-use Rattle.nearest_laws.specs.Nearest.{Found, nearest}
-use Rattle.generate_laws.specs.Generate.{counted, untried, byMethod, closestOf, foundOf, nearestOf, answerBy}
-use Rattle.generate_laws.specs.Method3.{targetOf}
+use Rattle.inspect.proofs.Checked.{remain-and-misses}
+use Rattle.nearest_laws.specs.Nearest.{Found, nearest, standard-weighting}
+use Rattle.nearest_laws.proofs.Nearest.{nearest-split}
+use Rattle.generate_laws.specs.Generate.{counted, untried, byMethod, closestOf, targetOf, pointsLeft, foundOf, nearestOf, answerBy}
+use Rattle.generate_laws.proofs.Left.{points-within}
 
 -- a shared check stops the query by n
 pub halted : (method : ℕ) (q : Query) (n : ℕ) → n ≡ stopOf q → 0 < n → refused n ≡ answerBy method q
@@ -70,10 +75,25 @@ module _ (i : Inspect) (acc : Float) (ws : List ℕ) (T R m : ℕ) (ew : ws ≡ 
   same-walk : nearest ws (givens i) T R ≡ nearest (standard (i .classic)) (givens i) (targetOf i acc) (remain i)
   same-walk = rw (ew, et, er)
 
-  pub nearest-found : (f : Found) → some f ≡ nearest ws (givens i) T R → worked (f .counts ++ (m ∷ f .tried ∷ [])) ≡ nearestOf i (some acc)
+  same-left : (xs : List ℕ) → subℕ T (points ws xs) ≡ pointsLeft i acc xs
+  same-left xs = rw (ew, et)
+
+  pub nearest-found
+      : (f : Found) (left : ℤ) → some f ≡ nearest ws (givens i) T R → left ≡ subℕ T (points ws (f .counts))
+      → worked (f .counts ++ (m ∷ f .tried ∷ bitsOf left ∷ [])) ≡ nearestOf i (some acc)
   unfolding nearestOf foundOf
-  nearest-found f e = ap (λ (x : ℕ). worked (f .counts ++ (x ∷ f .tried ∷ []))) em ∙ ap (foundOf i) (e ∙ same-walk)
+  nearest-found f left e el =
+      ap₂ (λ (x : ℕ) (y : ℤ). worked (f .counts ++ (x ∷ f .tried ∷ bitsOf y ∷ []))) em (el ∙ same-left (f .counts))
+      ∙ ap (foundOf i acc) (e ∙ same-walk)
+
+  -- what is found has no more hits and no more points than a chart
+  pub found-within
+      : (f : Found) → some f ≡ nearest ws (givens i) T R → totalHits i ≤ mostHits → (hits (f .counts) ≤ mostHits) × (points ws (f .counts) ≤ mostPoints)
+  found-within f e t =
+      let s = nearest-split (standard (i .classic)) (givens i) (targetOf i acc) (remain i) f (standard-weighting (i .classic)) refl (sym (e ∙ same-walk)) in
+      let h : hits (f .counts) ≤ mostHits = omega (arith, s .sums, remain-and-misses i) in
+      (h, rw ew (points-within i (f .counts) h))
 
   pub nearest-none : none ≡ nearest ws (givens i) T R → refused 14 ≡ nearestOf i (some acc)
   unfolding nearestOf foundOf
-  nearest-none e = ap (foundOf i) (e ∙ same-walk)
+  nearest-none e = ap (foundOf i acc) (e ∙ same-walk)

@@ -1,5 +1,5 @@
 -- Demand 3 of one query, proved of what the direct call answers. Assumes nothing.
-use Prim.Native.Nat.{ℕ, zero, suc, _+_, _-_, _≤_}
+use Prim.Native.Nat.{ℕ, zero, suc, _+_, _≤_, _<_}
 use mathlib.Core.Path.{_≡_, refl, sym, ap, _∙_, subst}
 use mathlib.Core.Bool.{Bool, true, false, cond}
 use mathlib.Core.List.{List, [], _∷_, _++_}
@@ -10,13 +10,17 @@ use native.Mathlib.Omega.{arith}
 use borrow.Author.Tests.{eq-eqb, ne-eqb, eqb-true, eqb-false}
 use lib.Dec.{eqb, ltb}
 use lib.Ieee.{Float}
-use lib.ListN.{length, take, getD, length-append}
-use lib.Seq.{take-append-le}
-use Rattle.score_state.specs.Points.{hits, standard}
+use lib.IntN.{natAbs}
+use lib.ListN.{length, getD, length-append}
+use lib.Seq.{take-append-le, take-at, getD-append-add}
+use Rattle.units.specs.Limits.{mostHits}
+use Rattle.points_left.specs.Left.{most31, bitsOf, signedOf}
+use Rattle.points_left.proofs.Left.{size-gap, signed-bits, bits-fit}
+use Rattle.score_state.specs.Points.{hits, points, standard}
 use Rattle.score_state.specs.Given.{missing, givenHits}
 use Rattle.score_state.specs.declared.HitResults.{HitResults}
 use Rattle.inspect.specs.Inspect.{Inspect, inspectOf, givens, totalHits, misses, remain}
-use Rattle.inspect.specs.Checks.{chartOver, unknownCode, countOver, accOutside, stopOf, Domain}
+use Rattle.inspect.specs.Checks.{chartOver, unknownCode, countOver, accOutside, stopOf, InRange, Domain}
 use Rattle.score_state.specs.Answer.{Answer, worked, refused, statusOf, valuesOf}
 use Rattle.inspect.specs.declared.Query.{Query}
 use Rattle.inspect.proofs.Checked.{domain, remain-and-misses, total-within}
@@ -25,10 +29,11 @@ use Rattle.nearest_laws.specs.Split.{IsSplit}
 use Rattle.nearest_laws.specs.Nearest.{Found, nearest, stops, standard-weighting}
 use Rattle.nearest_laws.proofs.Nearest.{nearest-split, nearest-near, nearest-stops, answered}
 use Rattle.nearest_laws.proofs.Tried.{tried-standard}
-use Rattle.generate_laws.specs.Generate.{untried, closestOf, foundOf, nearestOf, byMethod, answerBy, generateAnswer}
-use Rattle.generate_laws.specs.Method3.{fiveOf, targetOf, distanceOf, walkOf, IsNearest}
+use Rattle.generate_laws.specs.Generate.{untried, closestOf, targetOf, pointsLeft, foundOf, nearestOf, byMethod, answerBy, generateAnswer}
+use Rattle.generate_laws.specs.Method3.{fiveOf, leftOf, distanceOf, walkOf, IsNearest}
 use Rattle.generate_laws.proofs.Exact.{exactOf, exact-is}
 use Rattle.generate_laws.proofs.EquallyFar.{equally-far, closest-hits}
+use Rattle.generate_laws.proofs.Left.{left-within}
 
 -- ---- what the direct call answers once the shared checks pass
 pub passes : (q : Query) → stopOf q ≡ 0 → generateAnswer q ≡ byMethod (q .method) (inspectOf q)
@@ -47,16 +52,9 @@ second : (m : ℕ) (i : Inspect) → m ≡ 2 → byMethod m i ≡ closestOf i (i
 unfolding byMethod
 second m i e = ap (λ (n : ℕ). byMethod n i) e
 
--- five counts, then misses and tried
-seven : (xs : List ℕ) (m t : ℕ) → length xs ≡ 5
-    → (take 5 (xs ++ (m ∷ t ∷ [])) ≡ xs) × (getD (xs ++ (m ∷ t ∷ [])) 5 0 ≡ m) × (getD (xs ++ (m ∷ t ∷ [])) 6 0 ≡ t)
-seven [] m t e = absurd (omega arith)
-seven (a ∷ []) m t e = absurd (omega arith)
-seven (a ∷ (b ∷ [])) m t e = absurd (omega arith)
-seven (a ∷ (b ∷ (c ∷ []))) m t e = absurd (omega arith)
-seven (a ∷ (b ∷ (c ∷ (d ∷ [])))) m t e = absurd (omega arith)
-seven (a ∷ (b ∷ (c ∷ (d ∷ (x ∷ []))))) m t e = (refl, refl, refl)
-seven (a ∷ (b ∷ (c ∷ (d ∷ (x ∷ (y ∷ ys)))))) m t e = absurd (omega arith)
+-- what stands behind the first k values
+behind : (k : ℕ) (xs ys : List ℕ) → length xs ≡ k → (n : ℕ) → getD (xs ++ ys) (k + n) 0 ≡ getD ys n 0
+behind k xs ys e n = ap (λ (j : ℕ). getD (xs ++ ys) (j + n) 0) (sym e) ∙ getD-append-add xs ys n 0
 
 -- ---- method 3 with an accuracy
 module _ (i : Inspect) (acc : Float) where
@@ -66,23 +64,41 @@ module _ (i : Inspect) (acc : Float) where
   split : (f : Found) → walked ≡ some f → IsSplit (givens i) (remain i) (f .counts)
   split f e = nearest-split (standard (i .classic)) (givens i) (targetOf i acc) (remain i) f (standard-weighting (i .classic)) refl e
 
+  -- what stands behind the five counts
+  abbrev last : Found → List ℕ
+  last f = misses i ∷ f .tried ∷ bitsOf (pointsLeft i acc (f .counts)) ∷ []
+
   -- where a split was found, all that demand 3 says of the answer
-  is-nearest : (f : Found) → walked ≡ some f → IsNearest i acc (foundOf i (some f))
+  is-nearest : (f : Found) → walked ≡ some f → natAbs (pointsLeft i acc (f .counts)) ≤ most31 → IsNearest i acc (foundOf i acc (some f))
   unfolding foundOf
-  is-nearest f e =
+  is-nearest f e small =
       let s = split f e in
-      let v = seven (f .counts) (misses i) (f .tried) (s .long) in
+      let five = take-at (f .counts) (last f) 5 (s .long) in
+      let next = behind 5 (f .counts) (last f) (s .long) in
       let w = answered (standard (i .classic)) (givens i) (targetOf i acc) (remain i) f e .1 in
+      let left : leftOf (foundOf i acc (some f)) ≡ pointsLeft i acc (f .counts) =
+      ap signedOf (next 2) ∙ signed-bits (pointsLeft i acc (f .counts)) small in
       record {
         status = refl;
-        counts = v .0 ∙ ap (λ (g : Found). g .counts) (sym w);
-        total = rw (v .0, v .1) (ap (λ (n : ℕ). n + misses i) (s .sums) ∙ remain-and-misses i);
-        keeps = rw (v .0) (s .keeps);
-        capped = v .1;
-        near = λ xs h. rw (v .0) (nearest-near (standard (i .classic)) (givens i) (targetOf i acc) (remain i) f (standard-weighting (i .classic)) refl e xs h);
-        tried = v .2 ∙ ap (λ (g : Found). g .tried) (sym w);
-        few = le-trans (le-of-eq (v .2)) (tried-standard (i .classic) (givens i) (targetOf i acc) (remain i) f refl e);
+        counts = five ∙ ap (λ (g : Found). g .counts) (sym w);
+        total = rw (five, next 0) (ap (λ (n : ℕ). n + misses i) (s .sums) ∙ remain-and-misses i);
+        keeps = rw five (s .keeps);
+        capped = next 0;
+        left = left ∙ ap (pointsLeft i acc) (sym five);
+        near = λ xs h.
+            le-trans (le-of-eq (ap natAbs left ∙ size-gap (targetOf i acc) (points (standard (i .classic)) (f .counts))))
+            (nearest-near (standard (i .classic)) (givens i) (targetOf i acc) (remain i) f (standard-weighting (i .classic)) refl e xs h);
+        tried = next 1 ∙ ap (λ (g : Found). g .tried) (sym w);
+        few = le-trans (le-of-eq (next 1)) (tried-standard (i .classic) (givens i) (targetOf i acc) (remain i) f refl e);
       }
+
+  -- of a chart's hits and an accuracy within 0 to 1, left is small
+  module _ (t : totalHits i ≤ mostHits) (r : InRange (some acc)) where
+    small-left : (f : Found) → walked ≡ some f → natAbs (pointsLeft i acc (f .counts)) ≤ most31
+    small-left f e = left-within i acc t r (f .counts) (omega (arith, split f e .sums, remain-and-misses i))
+
+    found-nearest : (f : Found) → walked ≡ some f → IsNearest i acc (foundOf i acc (some f))
+    found-nearest f e = is-nearest f e (small-left f e)
 
   -- check 14 or a split, and which
   found-or : (b : Bool) → stops (givens i) (remain i) ≡ b
@@ -97,16 +113,16 @@ module _ (i : Inspect) (acc : Float) where
   stopped-is e = found-or true e
 
   -- 14 is told exactly where no split exists
-  found-fourteen : (statusOf (foundOf i walked) ≡ 14) ↔ ((xs : List ℕ) → IsSplit (givens i) (remain i) xs → ⊥)
+  found-fourteen : (statusOf (foundOf i acc walked) ≡ 14) ↔ ((xs : List ℕ) → IsSplit (givens i) (remain i) xs → ⊥)
   unfolding foundOf
   found-fourteen = (λ e. nearest-stops (givens i) (remain i) refl .0 (go (stops (givens i) (remain i)) refl e), λ n. back (nearest-stops (givens i) (remain i) refl .1 n))
     where
-      go : (b : Bool) → stops (givens i) (remain i) ≡ b → statusOf (foundOf i walked) ≡ 14 → stops (givens i) (remain i) ≡ true
+      go : (b : Bool) → stops (givens i) (remain i) ≡ b → statusOf (foundOf i acc walked) ≡ 14 → stops (givens i) (remain i) ≡ true
       go true s e = s
-      go false s e = let z : statusOf (foundOf i (some (walkOf i acc))) ≡ 14 = sym (ap (λ (o : Option Found). statusOf (foundOf i o)) (walked-is s)) ∙ e in absurd (omega arith)
+      go false s e = let z : statusOf (foundOf i acc (some (walkOf i acc))) ≡ 14 = sym (ap (λ (o : Option Found). statusOf (foundOf i acc o)) (walked-is s)) ∙ e in absurd (omega arith)
 
-      back : stops (givens i) (remain i) ≡ true → statusOf (foundOf i walked) ≡ 14
-      back s = ap (λ (o : Option Found). statusOf (foundOf i o)) (stopped-is s)
+      back : stops (givens i) (remain i) ≡ true → statusOf (foundOf i acc walked) ≡ 14
+      back s = ap (λ (o : Option Found). statusOf (foundOf i acc o)) (stopped-is s)
 
 -- ---- no other check and no other method tells 14, and no number is larger
 stop-small : (q : Query) → stopOf q ≤ 11
@@ -160,15 +176,15 @@ exact-small i (some acc) = rw untried-status (closest-six i acc .0)
 closest-small : (q : Query) → Domain q → statusOf (closestOf (inspectOf q) (inspectOf q .acc)) ≤ 12
 closest-small q d = rw (exact-is q d) (exact-small (inspectOf q) (inspectOf q .acc))
 
-found-status : (i : Inspect) (o : Option Found) → statusOf (foundOf i o) ≤ 14
+found-status : (i : Inspect) (acc : Float) (o : Option Found) → statusOf (foundOf i acc o) ≤ 14
 unfolding foundOf
-found-status i none = omega arith
-found-status i (some f) = omega arith
+found-status i acc none = omega arith
+found-status i acc (some f) = omega arith
 
 nearest-status : (i : Inspect) (o : Option Float) → statusOf (nearestOf i o) ≤ 14
 unfolding nearestOf
 nearest-status i none = omega arith
-nearest-status i (some acc) = found-status i (walked i acc)
+nearest-status i (some acc) = found-status i acc (walked i acc)
 
 method-status : (m : ℕ) (q : Query) → Domain q → statusOf (byMethod m (inspectOf q)) ≤ 14
 unfolding byMethod
@@ -184,33 +200,45 @@ status-small q = go (eqb (stopOf q) 0) refl
     go true b = let p = eqb-true (stopOf q) 0 b in rw (passes q p) (method-status (q .method) q (domain q p))
     go false b = rw (halts q (eqb-false (stopOf q) 0 b)) (omega (arith, stop-small q))
 
--- an answer of five counts at least, which are no more than a chart's hits
+-- an answer of five counts at least, which are no more than a chart's hits, and a left whose bits fit u32
 pub record Small (a : Answer (List ℕ)) : Type 0 where
   pub long : 5 ≤ length (valuesOf a)
-  pub few : hits (fiveOf a) ≤ 200_000
+  pub few : hits (fiveOf a) ≤ mostHits
+  pub fits : getD (valuesOf a) 7 0 < 4_294_967_296
 
 -- of a walk's answer
-pub found-small : (i : Inspect) (acc : Float) (f : Found) → walked i acc ≡ some f → totalHits i ≤ 200_000 → Small (foundOf i (some f))
+found-small
+    : (i : Inspect) (acc : Float) (f : Found) → walked i acc ≡ some f → totalHits i ≤ mostHits → InRange (some acc)
+    → Small (foundOf i acc (some f))
 unfolding foundOf
-found-small i acc f e t =
-    let n = is-nearest i acc f e in
-    let l : length (f .counts ++ (misses i ∷ f .tried ∷ [])) ≡ length (f .counts) + 2 = length-append (f .counts) (misses i ∷ f .tried ∷ []) in
-    record { long = omega (arith, split i acc f e .long); few = omega (arith, n .total) }
+found-small i acc f e t r =
+    let l = length-append (f .counts) (last i acc f) in
+    record {
+      long = omega (arith, l, split i acc f e .long);
+      few = omega (arith, found-nearest i acc t r f e .total);
+      fits = rw (behind 5 (f .counts) (last i acc f) (split i acc f e .long) 2) (bits-fit (pointsLeft i acc (f .counts)) (small-left i acc t r f e));
+    }
 
 -- ---- Demand 3 of a query
 
 -- "for every method 3 row that no check stops"
 module _ (q : Query) (acc : Float) (m : q .method ≡ 3) (e : stopOf q ≡ 0) (a : (inspectOf q) .acc ≡ some acc) (s : stops (givens (inspectOf q)) (remain (inspectOf q)) ≡ false) where
-  answer-3 : generateAnswer q ≡ foundOf (inspectOf q) (some (walkOf (inspectOf q) acc))
+  answer-3 : generateAnswer q ≡ foundOf (inspectOf q) acc (some (walkOf (inspectOf q) acc))
   answer-3 =
       passes q e ∙ third (q .method) (inspectOf q) m ∙ ap (λ (o : Option Float). nearestOf (inspectOf q) o) a
-      ∙ unfold nearestOf in ap (foundOf (inspectOf q)) (walked-is (inspectOf q) acc s)
+      ∙ unfold nearestOf in ap (foundOf (inspectOf q) acc) (walked-is (inspectOf q) acc s)
+
+  total : totalHits (inspectOf q) ≤ mostHits
+  total = total-within q (domain q e)
+
+  range : InRange (some acc)
+  range = subst InRange a (domain q e .acc)
 
   pub method-3 : IsNearest (inspectOf q) acc (generateAnswer q)
-  method-3 = rw answer-3 (is-nearest (inspectOf q) acc (walkOf (inspectOf q) acc) (walked-is (inspectOf q) acc s))
+  method-3 = rw answer-3 (found-nearest (inspectOf q) acc total range (walkOf (inspectOf q) acc) (walked-is (inspectOf q) acc s))
 
   pub method-3-small : Small (generateAnswer q)
-  method-3-small = rw answer-3 (found-small (inspectOf q) acc (walkOf (inspectOf q) acc) (walked-is (inspectOf q) acc s) (total-within q (domain q e)))
+  method-3-small = rw answer-3 (found-small (inspectOf q) acc (walkOf (inspectOf q) acc) (walked-is (inspectOf q) acc s) total range)
 
 -- "status 14 exactly when its method is 3, it passes every check before 14, and no split exists for it"
 pub record Fourteen (q : Query) : Type 0 where
@@ -262,48 +290,58 @@ fourteen q = (only-14 q, status-14 q)
 untried-five : (a : Answer (List ℕ)) → SixOr12 a → statusOf (untried a) ≡ 0 → (fiveOf (untried a) ≡ fiveOf a) × (5 ≤ length (valuesOf (untried a)))
 untried-five (worked xs) h e =
     let l : length xs ≡ 6 = h .1 e in
-    (take-append-le 5 xs (0 ∷ []) (omega arith), simp length-append (omega arith))
+    (take-append-le 5 xs _ (omega arith), simp length-append (omega arith))
 untried-five (refused n) h e = let l : _≡_ {A = ℕ} 0 6 = h .1 e in absurd (omega arith)
+
+-- Closest has no left
+untried-left : (a : Answer (List ℕ)) → SixOr12 a → getD (valuesOf (untried a)) 7 0 ≡ 0
+untried-left (worked xs) h = behind 6 xs (0 ∷ 0 ∷ []) (h .1 refl) 1
+untried-left (refused n) h = refl
 
 pub record EquallyFar (i : Inspect) (a b : Answer (List ℕ)) : Type 0 where
   pub acc : Float
   pub given : i .acc ≡ some acc
-  pub equal : distanceOf i acc (fiveOf a) ≡ distanceOf i acc (fiveOf b)
+  pub equal : distanceOf i acc (fiveOf a) ≡ natAbs (leftOf b)
   pub first : Small a
   pub second : Small b
 
 -- of Closest's with two missing
 untried-small
-    : (i : Inspect) (acc : Float) → length (missing (standard (i .classic)) (givens i)) ≡ 2 → statusOf (closestAt i acc) ≡ 0 → totalHits i ≤ 200_000
+    : (i : Inspect) (acc : Float) → length (missing (standard (i .classic)) (givens i)) ≡ 2 → statusOf (closestAt i acc) ≡ 0 → totalHits i ≤ mostHits
     → Small (untried (closestAt i acc))
 untried-small i acc two c t =
     let v = untried-five (closestAt i acc) (closest-six i acc) (untried-status (closestAt i acc) ∙ c) in
-    record { long = v .1; few = rw (v .0) (omega (arith, closest-hits i acc two c, remain-and-misses i)) }
+    record {
+      long = v .1;
+      few = rw (v .0) (omega (arith, closest-hits i acc two c, remain-and-misses i));
+      fits = rw (untried-left (closestAt i acc) (closest-six i acc)) (omega arith);
+    }
 
 both-answer
     : (i : Inspect) (o : Option Float) → o ≡ i .acc → length (missing (standard (i .classic)) (givens i)) ≡ 2
-    → statusOf (exactOf i o) ≡ 0 → statusOf (nearestOf i o) ≡ 0 → totalHits i ≤ 200_000 → EquallyFar i (exactOf i o) (nearestOf i o)
+    → statusOf (exactOf i o) ≡ 0 → statusOf (nearestOf i o) ≡ 0 → totalHits i ≤ mostHits → InRange o → EquallyFar i (exactOf i o) (nearestOf i o)
 unfolding exactOf nearestOf foundOf
-both-answer i none h two c n t = absurd (omega arith)
-both-answer i (some acc) h two c n t = go (stops (givens i) (remain i)) refl n
+both-answer i none h two c n t r = absurd (omega arith)
+both-answer i (some acc) h two c n t r = go (stops (givens i) (remain i)) refl n
   where
-    go : (b : Bool) → stops (givens i) (remain i) ≡ b → statusOf (foundOf i (walked i acc)) ≡ 0
-        → EquallyFar i (untried (closestAt i acc)) (foundOf i (walked i acc))
+    go : (b : Bool) → stops (givens i) (remain i) ≡ b → statusOf (foundOf i acc (walked i acc)) ≡ 0
+        → EquallyFar i (untried (closestAt i acc)) (foundOf i acc (walked i acc))
     go true s e =
-        let z : statusOf (foundOf i none) ≡ 0 = sym (ap (λ (o : Option Found). statusOf (foundOf i o)) (stopped-is i acc s)) ∙ e in
+        let z : statusOf (foundOf i acc none) ≡ 0 = sym (ap (λ (o : Option Found). statusOf (foundOf i acc o)) (stopped-is i acc s)) ∙ e in
         absurd (omega arith)
     go false s e =
         let w = walked-is i acc s in
-        let k : fiveOf (foundOf i (walked i acc)) ≡ walkOf i acc .counts =
-        ap (λ (o : Option Found). fiveOf (foundOf i o)) w ∙ is-nearest i acc (walkOf i acc) w .counts in
+        let n = found-nearest i acc t r (walkOf i acc) w in
+        let k : leftOf (foundOf i acc (walked i acc)) ≡ pointsLeft i acc (walkOf i acc .counts) =
+        ap (λ (o : Option Found). leftOf (foundOf i acc o)) w ∙ n .left ∙ ap (pointsLeft i acc) (n .counts) in
         record {
           acc = acc;
           given = sym h;
           equal = ap (distanceOf i acc) (untried-five (closestAt i acc) (closest-six i acc) c .0)
               ∙ equally-far i acc two (walkOf i acc) (sym (untried-status (closestAt i acc)) ∙ c) w
-              ∙ ap (distanceOf i acc) (sym k);
+              ∙ sym (ap natAbs k ∙ size-gap (targetOf i acc) (points (standard (i .classic)) (walkOf i acc .counts)));
           first = untried-small i acc two (sym (untried-status (closestAt i acc)) ∙ c) t;
-          second = subst (λ (o : Option Found). Small (foundOf i o)) (sym w) (found-small i acc (walkOf i acc) w t);
+          second = subst (λ (o : Option Found). Small (foundOf i acc o)) (sym w) (found-small i acc (walkOf i acc) w t r);
         }
 
 -- an answer with status 0 passed the shared checks
@@ -347,4 +385,39 @@ equally q r mq mr same two eq er =
     passes r (passed-0 r er) ∙ third (r .method) (inspectOf r) mr ∙ ap (λ (j : Inspect). nearestOf j (j .acc)) (sym same) in
     rw (a, b)
     (both-answer i (i .acc) refl two (ap statusOf (sym a) ∙ eq) (ap statusOf (sym b) ∙ er)
-    (total-within q d))
+    (total-within q d) (d .acc))
+
+-- ---- "otherwise 0": left of every answer but that of a method 3 query with status 0
+exact-left : (i : Inspect) (o : Option Float) → getD (valuesOf (exactOf i o)) 7 0 ≡ 0
+unfolding exactOf
+exact-left i none = refl
+exact-left i (some acc) = untried-left (closestAt i acc) (closest-six i acc)
+
+found-left : (i : Inspect) (acc : Float) (o : Option Found) → (statusOf (foundOf i acc o) ≡ 0 → ⊥) → getD (valuesOf (foundOf i acc o)) 7 0 ≡ 0
+unfolding foundOf
+found-left i acc none n = refl
+found-left i acc (some f) n = absurd (n refl)
+
+nearest-left : (i : Inspect) (o : Option Float) → (statusOf (nearestOf i o) ≡ 0 → ⊥) → getD (valuesOf (nearestOf i o)) 7 0 ≡ 0
+unfolding nearestOf
+nearest-left i none n = refl
+nearest-left i (some acc) n = found-left i acc (walked i acc) n
+
+method-left
+    : (m : ℕ) (q : Query) → Domain q → m ≤ 3 → (m ≡ 3 → statusOf (byMethod m (inspectOf q)) ≡ 0 → ⊥)
+    → getD (valuesOf (byMethod m (inspectOf q))) 7 0 ≡ 0
+unfolding byMethod
+method-left zero q d l n = refl
+method-left (suc zero) q d l n = refl
+method-left (suc (suc zero)) q d l n = rw (exact-is q d) (exact-left (inspectOf q) (inspectOf q .acc))
+method-left (suc (suc (suc m))) q d l n = nearest-left (inspectOf q) (inspectOf q .acc) (n (omega arith))
+
+pub left-otherwise
+    : (q : Query) → (q .method ≡ 3 → statusOf (generateAnswer q) ≡ 0 → ⊥) → getD (valuesOf (generateAnswer q)) 7 0 ≡ 0
+left-otherwise q n = go (eqb (stopOf q) 0) refl
+  where
+    go : (b : Bool) → eqb (stopOf q) 0 ≡ b → getD (valuesOf (generateAnswer q)) 7 0 ≡ 0
+    go true b =
+        let p = eqb-true (stopOf q) 0 b in
+        rw (passes q p) (method-left (q .method) q (domain q p) (domain q p .method) (λ m z. n m (ap statusOf (passes q p) ∙ z)))
+    go false b = rw (halts q (eqb-false (stopOf q) 0 b)) refl

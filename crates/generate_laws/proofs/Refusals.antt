@@ -17,8 +17,7 @@ use Rattle.inspect.specs.declared.Query.{Query}
 use Rattle.inspect.proofs.Checked.{domain}
 use Rattle.closest_laws.specs.Closest.{closestAt}
 use Rattle.nearest_laws.specs.Nearest.{Found, nearest}
-use Rattle.generate_laws.specs.Generate.{untried, foundOf, nearestOf, byMethod, generateAnswer}
-use Rattle.generate_laws.specs.Method3.{targetOf}
+use Rattle.generate_laws.specs.Generate.{untried, targetOf, foundOf, nearestOf, byMethod, generateAnswer}
 use Rattle.generate_laws.proofs.Exact.{exactOf, exact-is}
 use Rattle.generate_laws.proofs.Method3.{passes, halts, SixOr12, closest-six}
 
@@ -29,10 +28,10 @@ untried-full : (a : Answer (List ℕ)) → SixOr12 a → Full (untried a)
 untried-full (worked xs) h e = let l = h .1 e in simp length-append (omega arith)
 untried-full (refused n) h e = let l : _≡_ {A = ℕ} 0 6 = h .1 e in absurd (omega arith)
 
-found-full : (i : Inspect) (o : Option Found) → Full (foundOf i o)
+found-full : (i : Inspect) (acc : Float) (o : Option Found) → Full (foundOf i acc o)
 unfolding foundOf
-found-full i none e = absurd (omega arith)
-found-full i (some f) e = simp length-append (omega arith)
+found-full i acc none e = absurd (omega arith)
+found-full i acc (some f) e = simp length-append (omega arith)
 
 exact-full : (i : Inspect) (o : Option Float) → Full (exactOf i o)
 unfolding exactOf
@@ -42,7 +41,7 @@ exact-full i (some acc) e = untried-full (closestAt i acc) (closest-six i acc) e
 nearest-full : (i : Inspect) (o : Option Float) → Full (nearestOf i o)
 unfolding nearestOf
 nearest-full i none e = absurd (omega arith)
-nearest-full i (some acc) e = found-full i (nearest (standard (i .classic)) (givens i) (targetOf i acc) (remain i)) e
+nearest-full i (some acc) e = found-full i acc (nearest (standard (i .classic)) (givens i) (targetOf i acc) (remain i)) e
 
 method-full : (m : ℕ) (q : Query) → Domain q → Full (byMethod m (inspectOf q))
 unfolding byMethod

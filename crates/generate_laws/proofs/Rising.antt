@@ -10,7 +10,8 @@ use Rattle.score_state.specs.Answer.{Answer}
 use Rattle.inspect.specs.Inspect.{Inspect, givens, totalHits, misses, remain}
 use Rattle.nearest_laws.specs.Nearest.{stops, standard-weighting}
 use Rattle.nearest_laws.proofs.Rising.{rising}
-use Rattle.generate_laws.specs.Method3.{fiveOf, missesOf, targetOf, walkOf, IsNearest}
+use Rattle.generate_laws.specs.Generate.{targetOf}
+use Rattle.generate_laws.specs.Method3.{fiveOf, missesOf, walkOf, IsNearest}
 use Rattle.generate_laws.proofs.Method3.{walked-is}
 
 -- a query, as the generators see it, with another accuracy

@@ -111,7 +111,7 @@ pub extern "C" fn nuqsillay_target(
     }
 }
 
-// The direct call: 0 with the five counts, misses and tried in out, or the number that refuses.
+// The direct call: 0 with the five counts, misses, tried and the bits of left in out, or the number that refuses.
 #[no_mangle]
 pub extern "C" fn nuqsillay_generate(
     objects: u32,
@@ -130,7 +130,7 @@ pub extern "C" fn nuqsillay_generate(
     acc: f64,
     out: &mut [u32],
 ) -> u32
-    ensures { λ r. ⌜ lent r (now (out .exit)) ≡ handed 7 (generateAnswer (queryBy objects holds method priority classic presence (sixCounts n320 n300 n200 n100 n50 misses) passed acc)) (now (out .entry)) ⌝ }
+    ensures { λ r. ⌜ lent r (now (out .exit)) ≡ handed 8 (generateAnswer (queryBy objects holds method priority classic presence (sixCounts n320 n300 n200 n100 n50 misses) passed acc)) (now (out .entry)) ⌝ }
 {
     direct::generate(
         objects,
@@ -151,7 +151,7 @@ pub extern "C" fn nuqsillay_generate(
     )
 }
 
-// Works a sheet: 0 with an answer of 32 bytes for each query in out, or 1 to 5 with out unchanged.
+// Works a sheet: 0 with an answer of 36 bytes for each query in out, or 1 to 5 with out unchanged.
 #[no_mangle]
 pub extern "C" fn nuqsillay_work_sheet(sheet: &[u8], out: &mut [u8]) -> u32
     ensures { λ r. ⌜ lent r (now (out .exit)) ≡ sheetLent (now (sheet .entry)) (now (out .entry)) ⌝ }

@@ -68,8 +68,8 @@ fn row_stop(row: Row, chart: Chart) -> u32
 }
 
 // The answer that the direct call's status and values tell.
-fn answer_of(status: u32, numbers: [u32; 7]) -> Generated
-    requires { ⌜ length numbers ≡ 7 ⌝ }
+fn answer_of(status: u32, numbers: [u32; 8]) -> Generated
+    requires { ⌜ length numbers ≡ 8 ⌝ }
     ensures { λ r. ⌜ generatedOf r ≡ answerIn status numbers ⌝ }
 {
     if status > 0 {
@@ -83,7 +83,7 @@ fn answer_of(status: u32, numbers: [u32; 7]) -> Generated
         n50: numbers[4],
         misses: numbers[5],
     };
-    Generated::Counts(counts, numbers[6])
+    Generated::Counts(counts, numbers[6], points_left::signed_of(numbers[7]))
 }
 
 // The answer of a row whose chart is found.
@@ -95,7 +95,7 @@ fn found_answer(row: Row, chart: Chart) -> Generated
         return Generated::Refused(stop);
     }
     let acc = little_endian::f64_of(row.acc);
-    let mut numbers = [0u32; 7];
+    let mut numbers = [0u32; 8];
     let status = direct::generate(
         chart.n_objects,
         chart.n_hold_notes,

@@ -44,7 +44,7 @@ fn sheet_stop(sheet: &[u8], room: usize) -> u32
     if end < len {
         return 4;
     }
-    if room < 32 * queries {
+    if room < 36 * queries {
         return 5;
     }
     0
@@ -61,19 +61,19 @@ fn work_rows(
 )
     requires { ⌜ (count ≤ 256) × (count ≤ length charts) ⌝ }
     requires { ⌜ base + 44 * n ≤ length (now sheet) ⌝ }
-    requires { ⌜ 32 * n ≤ length (now out) ⌝ }
+    requires { ⌜ 36 * n ≤ length (now out) ⌝ }
     ensures { λ _. ⌜ now (out .exit) ≡ rowsWritten (now (sheet .entry)) (take count charts) base n (now (out .entry)) ⌝ }
 {
     let mut i: usize = 0;
     while i < n {
         let row = cursor::row_from(sheet, base + 44 * i);
         let answer = rows::row_answer(row, charts, count);
-        answers::put_answer(out, 32 * i, answer);
+        answers::put_answer(out, 36 * i, answer);
         i += 1;
     }
 }
 
-// Works every query of a sheet and writes its answer, 32 bytes each; a sheet that a check stops leaves the output unchanged.
+// Works every query of a sheet and writes its answer, 36 bytes each; a sheet that a check stops leaves the output unchanged.
 pub fn work_sheet(sheet: &[u8], out: &mut [u8]) -> SheetAnswer
     ensures equation { λ r. ⌜ workedOf r (now (out .exit)) ≡ sheetOf (now (sheet .entry)) (now (out .entry)) ⌝ }
     ensures demand3 { λ r. ⌜ WhenWorked r (Demand3 (now (sheet .entry)) (now (out .exit))) ⌝ }

@@ -25,12 +25,12 @@ pub record Accepted (s : List ℕ) (bytes : ℕ) : Type 0 where
   pub charts : chartCount s ≤ 256
   pub queries : queryCount s ≤ 1024
   pub ends : length s ≡ sheetEnd s
-  pub room : 32 * queryCount s ≤ bytes
+  pub room : 36 * queryCount s ≤ bytes
 
 pub accepted : (s : List ℕ) (bytes : ℕ) → sheetStop s bytes ≡ 0 → Accepted s bytes
 unfolding sheetStop
 accepted s bytes e =
-    let r8 : ℕ = cond (ltb bytes (32 * queryCount s)) 5 0 in
+    let r8 : ℕ = cond (ltb bytes (36 * queryCount s)) 5 0 in
     let r7 : ℕ = cond (ltb (sheetEnd s) (length s)) 4 r8 in
     let r6 : ℕ = cond (ltb (length s) (sheetEnd s)) 1 r7 in
     let r5 : ℕ = cond (ltb 1024 (queryCount s)) 3 r6 in
@@ -44,7 +44,7 @@ accepted s bytes e =
     let p5 = passes (ltb 1024 (queryCount s)) 3 r6 (omega arith) (p4 .1) in
     let p6 = passes (ltb (length s) (sheetEnd s)) 1 r7 (omega arith) (p5 .1) in
     let p7 = passes (ltb (sheetEnd s) (length s)) 4 r8 (omega arith) (p6 .1) in
-    let p8 = passes (ltb bytes (32 * queryCount s)) 5 0 (omega arith) (p7 .1) in
+    let p8 = passes (ltb bytes (36 * queryCount s)) 5 0 (omega arith) (p7 .1) in
     let ge : sheetEnd s ≤ length s = ltb-false (length s) (sheetEnd s) (p6 .0) in
     let le : length s ≤ sheetEnd s = ltb-false (sheetEnd s) (length s) (p7 .0) in
     record {
@@ -52,7 +52,7 @@ accepted s bytes e =
       charts = ltb-false 256 (chartCount s) (p2 .0);
       queries = ltb-false 1024 (queryCount s) (p5 .0);
       ends = omega arith;
-      room = ltb-false bytes (32 * queryCount s) (p8 .0);
+      room = ltb-false bytes (36 * queryCount s) (p8 .0);
     }
 
 -- the same of the counts as the code reads them: a of charts, b of queries
@@ -62,7 +62,7 @@ laid s bytes n a e h ea =
     let k = accepted s bytes (sym e ∙ z) in
     rw ea (k .charts, omega (arith, k .ends))
 
-pub laid-out : (s : List ℕ) (bytes n a b : ℕ) → n ≡ sheetStop s bytes → n ≤ 0 → a ≡ u32At s 0 → b ≡ u32At s (4 + 8 * a) → (4 + 8 * a + 4 + 44 * b ≤ length s) × (32 * b ≤ bytes)
+pub laid-out : (s : List ℕ) (bytes n a b : ℕ) → n ≡ sheetStop s bytes → n ≤ 0 → a ≡ u32At s 0 → b ≡ u32At s (4 + 8 * a) → (4 + 8 * a + 4 + 44 * b ≤ length s) × (36 * b ≤ bytes)
 laid-out s bytes n a b e h ea eb =
     let z : n ≡ 0 = omega arith in
     let k = accepted s bytes (sym e ∙ z) in

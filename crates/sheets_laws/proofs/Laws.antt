@@ -1,5 +1,5 @@
 -- What `sheetOf` says of a sheet, for a theorem over all its rows: a stopped sheet leaves the output; an accepted one has the
--- answer of row i at 32 * i, its eight numbers read back, and the bytes past the last answer as before.
+-- answer of row i at 36 * i, its nine numbers read back, and the bytes past the last answer as before.
 -- Assumes nothing.
 use mathlib.Core.Path.{_≡_, refl, ap, sym, _∙_}
 use mathlib.Core.List.{List}
@@ -18,12 +18,12 @@ use Rattle.sheets_laws.specs.Sheets.{chartCount, queryCount, rowsAt, she
 use Rattle.sheets_laws.proofs.Accepted.{accepted, sheet-stopped, sheet-worked}
 use Rattle.sheets_laws.proofs.Written.{length-written, written-part, written-rest}
 
--- a number inside 32 bytes that stand at m
-within : (xs : List ℕ) (m j : ℕ) → j + 4 ≤ 32 → u32At xs (m + j) ≡ u32At (take 32 (drop m xs)) j
+-- a number inside 36 bytes that stand at m
+within : (xs : List ℕ) (m j : ℕ) → j + 4 ≤ 36 → u32At xs (m + j) ≡ u32At (take 36 (drop m xs)) j
 within xs m j h =
-    let at : (k : ℕ) → k < 4 → getD (take 32 (drop m xs)) (j + k) 0 ≡ getD xs (m + j + k) 0 =
-    λ k l. getD-take 32 (drop m xs) (j + k) 0 (omega arith) ∙ getD-drop m xs (j + k) 0 ∙ (let e : m + (j + k) ≡ m + j + k = omega arith in ap (λ (n : ℕ). getD xs n 0) e) in
-    rw (getD-take 32 (drop m xs) j 0 (omega arith) ∙ getD-drop m xs j 0, at 1 (omega arith), at 2 (omega arith), at 3 (omega arith))
+    let at : (k : ℕ) → k < 4 → getD (take 36 (drop m xs)) (j + k) 0 ≡ getD xs (m + j + k) 0 =
+    λ k l. getD-take 36 (drop m xs) (j + k) 0 (omega arith) ∙ getD-drop m xs (j + k) 0 ∙ (let e : m + (j + k) ≡ m + j + k = omega arith in ap (λ (n : ℕ). getD xs n 0) e) in
+    rw (getD-take 36 (drop m xs) j 0 (omega arith) ∙ getD-drop m xs j 0, at 1 (omega arith), at 2 (omega arith), at 3 (omega arith))
 
 -- ---- a sheet
 pub length-chartsOf : (s : List ℕ) → length (chartsOf s) ≡ chartCount s
@@ -52,24 +52,24 @@ module _ (s out : List ℕ) where
     accepted-length = ap length accepted-bytes ∙ length-written s (chartsOf s) (rowsAt s) out (queryCount s) (accepted s (length out) ok .room)
 
     -- bytes past the last answer stay
-    pub bytes-past : drop (32 * queryCount s) (sheetOf s out .bytes) ≡ drop (32 * queryCount s) out
-    bytes-past = ap (drop (32 * queryCount s)) accepted-bytes ∙ written-rest s (chartsOf s) (rowsAt s) out (queryCount s)
+    pub bytes-past : drop (36 * queryCount s) (sheetOf s out .bytes) ≡ drop (36 * queryCount s) out
+    bytes-past = ap (drop (36 * queryCount s)) accepted-bytes ∙ written-rest s (chartsOf s) (rowsAt s) out (queryCount s)
 
-    -- the 32 bytes of every row are those of its answer
-    pub row-bytes : (i : ℕ) → i < queryCount s → take 32 (drop (32 * i) (sheetOf s out .bytes)) ≡ answerBytes (answerAt s i)
+    -- the 36 bytes of every row are those of its answer
+    pub row-bytes : (i : ℕ) → i < queryCount s → take 36 (drop (36 * i) (sheetOf s out .bytes)) ≡ answerBytes (answerAt s i)
     unfolding answerAt
-    row-bytes i l = ap (λ (b : List ℕ). take 32 (drop (32 * i) b)) accepted-bytes ∙ written-part s (chartsOf s) (rowsAt s) out (queryCount s) i l
+    row-bytes i l = ap (λ (b : List ℕ). take 36 (drop (36 * i) b)) accepted-bytes ∙ written-part s (chartsOf s) (rowsAt s) out (queryCount s) i l
 
-    -- its status, and its values from n320 (0) to tried (6), read back
-    pub row-status : (i : ℕ) → i < queryCount s → statusOf (answerAt s i) < 4294967296 → u32At (sheetOf s out .bytes) (32 * i) ≡ statusOf (answerAt s i)
+    -- its status, and its values from n320 (0) to left (7), read back
+    pub row-status : (i : ℕ) → i < queryCount s → statusOf (answerAt s i) < 4294967296 → u32At (sheetOf s out .bytes) (36 * i) ≡ statusOf (answerAt s i)
     row-status i l h =
-        let z : 32 * i ≡ 32 * i + 0 = omega arith in
-        ap (u32At (sheetOf s out .bytes)) z ∙ within (sheetOf s out .bytes) (32 * i) 0 (omega arith) ∙ ap (λ (b : List ℕ). u32At b 0) (row-bytes i l) ∙ status-back (answerAt s i) h
+        let z : 36 * i ≡ 36 * i + 0 = omega arith in
+        ap (u32At (sheetOf s out .bytes)) z ∙ within (sheetOf s out .bytes) (36 * i) 0 (omega arith) ∙ ap (λ (b : List ℕ). u32At b 0) (row-bytes i l) ∙ status-back (answerAt s i) h
 
     pub row-value
-        : (i k : ℕ) → i < queryCount s → k < 7 → value (answerAt s i) k < 4294967296 → u32At (sheetOf s out .bytes) (32 * i + (4 + 4 * k)) ≡ value (answerAt s i) k
+        : (i k : ℕ) → i < queryCount s → k < 8 → value (answerAt s i) k < 4294967296 → u32At (sheetOf s out .bytes) (36 * i + (4 + 4 * k)) ≡ value (answerAt s i) k
     row-value i k l m h =
-        within (sheetOf s out .bytes) (32 * i) (4 + 4 * k) (omega arith)
+        within (sheetOf s out .bytes) (36 * i) (4 + 4 * k) (omega arith)
         ∙ ap (λ (b : List ℕ). u32At b (4 + 4 * k)) (row-bytes i l)
         ∙ value-back (answerAt s i) k m h
 

@@ -10,7 +10,8 @@ use lib.ListN.{take}
 use Rattle.score_state.specs.Points.{points, standard}
 use Rattle.score_state.specs.Answer.{Answer, statusOf, valuesOf}
 use Rattle.records.specs.declared.Row.{Row}
-use Rattle.generate_laws.specs.Method3.{fiveOf, targetOf}
+use Rattle.generate_laws.specs.Generate.{targetOf}
+use Rattle.generate_laws.specs.Method3.{fiveOf}
 use Rattle.sheets_laws.specs.Sheets.{queryCount}
 use Rattle.sheets_laws.specs.Demand3.{row, inspected, written}
 

@@ -1,7 +1,7 @@
 -- What `printedOf` says in document 01's words: of a sheet that is stopped, `refused N`; of an accepted one, the header and for every
 -- query the line of its answer, where the answer's numbers fit the 32 bits that they have in the output.
 -- Assumes nothing.
-use mathlib.Core.Path.{_≡_, ap, _∙_}
+use mathlib.Core.Path.{_≡_, ap, ap₂, _∙_}
 use mathlib.Core.List.{List, [], _∷_, _++_}
 use Prim.Native.Nat.{ℕ, zero, suc, _+_, _*_, _<_}
 use native.Mathlib.Omega.{arith}
@@ -9,24 +9,24 @@ use lib.ListN.{length}
 use Rattle.little_endian.specs.Bytes.{u32At}
 use Rattle.score_state.specs.Answer.{Answer, statusOf}
 use Rattle.answers.specs.Answers.{value}
-use Rattle.text.specs.Text.{decimalText, refusedText}
+use Rattle.text.specs.Text.{decimalText, signedText, refusedText}
 use Rattle.lists.specs.Lists.{joined}
 use Rattle.lists.proofs.Joined.{same-pieces}
 use Rattle.sheets_laws.specs.Sheets.{sheetStop, queryCount, answerAt, sheetOf}
 use Rattle.sheets_laws.proofs.Laws.{refused-answer, accepted-answer, row-status, row-value}
-use Rattle.table.specs.Table.{headerText, fieldText, fieldsText, rowText, tableText, answerText, room, printedOf}
+use Rattle.table.specs.Table.{headerText, fieldText, fieldsText, leftText, rowText, tableText, answerText, room, printedOf}
 
--- the k-th field of an answer: its status, then its values
+-- the k-th field of an answer: its status, then its values; left, the last, by its bits
 abbrev pub field : Answer (List ℕ) → ℕ → ℕ
 field a zero = statusOf a
 field a (suc k) = value a k
 
 abbrev pub Fits32 : Answer (List ℕ) → Type 0
-Fits32 a = (k : ℕ) → k < 8 → field a k < 4294967296
+Fits32 a = (k : ℕ) → k < 9 → field a k < 4294967296
 
 -- the line of query i with this answer
 unfoldable pub lineOf : ℕ → Answer (List ℕ) → List ℕ
-lineOf i a = decimalText i ++ joined (λ k. 32 ∷ decimalText (field a k)) 8 ++ (10 ∷ [])
+lineOf i a = decimalText i ++ joined (λ k. 32 ∷ decimalText (field a k)) 8 ++ (32 ∷ signedText (field a 8)) ++ (10 ∷ [])
 
 module _ (s : List ℕ) where
   pub printed-refused : 0 < sheetStop s (length room) → printedOf s ≡ refusedText (sheetStop s (length room))
@@ -35,19 +35,19 @@ module _ (s : List ℕ) where
 
   module _ (ok : sheetStop s (length room) ≡ 0) where
     module _ (i : ℕ) (l : i < queryCount s) (fits : Fits32 (answerAt s i)) where
-      one-field : (k : ℕ) → k < 8 → u32At (sheetOf s room .bytes) (32 * i + 4 * k) ≡ field (answerAt s i) k
-      one-field zero h = let e : 32 * i + 4 * 0 ≡ 32 * i = omega arith in ap (u32At (sheetOf s room .bytes)) e ∙ row-status s room ok i l (fits 0 h)
+      one-field : (k : ℕ) → k < 9 → u32At (sheetOf s room .bytes) (36 * i + 4 * k) ≡ field (answerAt s i) k
+      one-field zero h = let e : 36 * i + 4 * 0 ≡ 36 * i = omega arith in ap (u32At (sheetOf s room .bytes)) e ∙ row-status s room ok i l (fits 0 h)
       one-field (suc k) h =
-          let e : 32 * i + 4 * suc k ≡ 32 * i + (4 + 4 * k) = omega arith in
+          let e : 36 * i + 4 * suc k ≡ 36 * i + (4 + 4 * k) = omega arith in
           ap (u32At (sheetOf s room .bytes)) e ∙ row-value s room ok i k l (omega arith) (fits (suc k) h)
 
       one-line : rowText (sheetOf s room .bytes) i ≡ lineOf i (answerAt s i)
-      unfolding rowText fieldsText lineOf
+      unfolding rowText fieldsText leftText lineOf
       one-line =
           let e =
-          same-pieces (fieldText (sheetOf s room .bytes) (32 * i)) (λ k. 32 ∷ decimalText (field (answerAt s i) k)) 8
-          (λ k h. unfold fieldText in ap (λ (n : ℕ). 32 ∷ decimalText n) (one-field k h)) in
-          ap (λ (xs : List ℕ). decimalText i ++ xs ++ (10 ∷ [])) e
+          same-pieces (fieldText (sheetOf s room .bytes) (36 * i)) (λ k. 32 ∷ decimalText (field (answerAt s i) k)) 8
+          (λ k h. unfold fieldText in ap (λ (n : ℕ). 32 ∷ decimalText n) (one-field k (omega arith))) in
+          ap₂ (λ (xs : List ℕ) (n : ℕ). decimalText i ++ xs ++ (32 ∷ signedText n) ++ (10 ∷ [])) e (one-field 8 (omega arith))
 
     pub printed-table
         : ((i : ℕ) → i < queryCount s → Fits32 (answerAt s i)) → printedOf s ≡ headerText ++ joined (λ i. lineOf i (answerAt s i)) (queryCount s)

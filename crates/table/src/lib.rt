@@ -5,26 +5,27 @@ ghost use lib.ListN.{length, take, drop};
 ghost use Rattle.io.specs.Counts.{Counts};
 ghost use Rattle.lists.specs.Lists.{joined};
 ghost use Rattle.text.specs.Text.{Appended};
-ghost use Rattle.table.specs.Table.{fieldText, fieldsText, rowText, tableText, printedOf};
+ghost use Rattle.table.specs.Table.{fieldText, fieldsText, leftText, rowText, tableText, printedOf};
 use sheets::SheetAnswer;
 
-// The longest table: a header, and 1,024 lines of an index of four digits, eight fields of a space and ten digits, and an end.
-pub const ROOM: usize = 50 + 1024 * (4 + 8 * 11 + 1);
+// The longest table: a header, and 1,024 lines of an index of four digits, eight fields of a space and ten digits, left with a sign more,
+// and an end.
+pub const ROOM: usize = 55 + 1024 * (4 + 8 * 11 + 12 + 1);
 
-// A space and the k-th number of the answer that starts at `from`.
+// A space and the k-th number of the answer that starts at `from`, up to tried.
 fn put_field(text: &mut [u8], at: usize, out: &[u8], from: usize, k: usize) -> usize
     requires { ⌜ at + 11 ≤ length (now text) ⌝ }
-    requires { ⌜ (k < 8) × (from + 32 ≤ length (now out)) ⌝ }
+    requires { ⌜ (k < 8) × (from + 36 ≤ length (now out)) ⌝ }
     ensures { λ r. ⌜ Appended (now (text .entry)) at (now (text .exit)) r (fieldText (now (out .entry)) from k) ⌝ }
     ensures { λ r. ⌜ r ≤ at + 11 ⌝ }
 {
     text::put_next(text, at, little_endian::u32_at(out, from + 4 * k))
 }
 
-// The eight fields of the answer that starts at `from`.
+// The eight fields up to tried of the answer that starts at `from`.
 fn put_fields(text: &mut [u8], at: usize, out: &[u8], from: usize) -> usize
     requires { ⌜ at + 88 ≤ length (now text) ⌝ }
-    requires { ⌜ from + 32 ≤ length (now out) ⌝ }
+    requires { ⌜ from + 36 ≤ length (now out) ⌝ }
     ensures { λ r. ⌜ Appended (now (text .entry)) at (now (text .exit)) r (fieldsText (now (out .entry)) from) ⌝ }
     ensures { λ r. ⌜ r ≤ at + 88 ⌝ }
 {
@@ -37,24 +38,36 @@ fn put_fields(text: &mut [u8], at: usize, out: &[u8], from: usize) -> usize
     end
 }
 
+// A space and left of the answer that starts at `from`.
+fn put_left(text: &mut [u8], at: usize, out: &[u8], from: usize) -> usize
+    requires { ⌜ at + 12 ≤ length (now text) ⌝ }
+    requires { ⌜ from + 36 ≤ length (now out) ⌝ }
+    ensures { λ r. ⌜ Appended (now (text .entry)) at (now (text .exit)) r (leftText (now (out .entry)) from) ⌝ }
+    ensures { λ r. ⌜ r ≤ at + 12 ⌝ }
+{
+    let next = text::put_byte(text, at, b' ');
+    text::put_signed(text, next, little_endian::u32_at(out, from + 32))
+}
+
 // The line of query i.
 fn put_row(text: &mut [u8], at: usize, out: &[u8], i: usize) -> usize
-    requires { ⌜ at + 93 ≤ length (now text) ⌝ }
-    requires { ⌜ (i < 1024) × (32 * i + 32 ≤ length (now out)) ⌝ }
+    requires { ⌜ at + 105 ≤ length (now text) ⌝ }
+    requires { ⌜ (i < 1024) × (36 * i + 36 ≤ length (now out)) ⌝ }
     ensures { λ r. ⌜ Appended (now (text .entry)) at (now (text .exit)) r (rowText (now (out .entry)) i) ⌝ }
-    ensures { λ r. ⌜ r ≤ at + 93 ⌝ }
+    ensures { λ r. ⌜ r ≤ at + 105 ⌝ }
 {
     let index_end = text::put_decimal(text, at, i as u32);
-    let fields_end = put_fields(text, index_end, out, 32 * i);
-    text::put_byte(text, fields_end, b'\n')
+    let fields_end = put_fields(text, index_end, out, 36 * i);
+    let left_end = put_left(text, fields_end, out, 36 * i);
+    text::put_byte(text, left_end, b'\n')
 }
 
 // The lines of the first n queries.
 fn put_rows(text: &mut [u8], at: usize, out: &[u8], n: usize) -> usize
-    requires { ⌜ at + 93 * n ≤ length (now text) ⌝ }
-    requires { ⌜ (n ≤ 1024) × (32 * n ≤ length (now out)) ⌝ }
+    requires { ⌜ at + 105 * n ≤ length (now text) ⌝ }
+    requires { ⌜ (n ≤ 1024) × (36 * n ≤ length (now out)) ⌝ }
     ensures { λ r. ⌜ Appended (now (text .entry)) at (now (text .exit)) r (joined (rowText (now (out .entry))) n) ⌝ }
-    ensures { λ r. ⌜ r ≤ at + 93 * n ⌝ }
+    ensures { λ r. ⌜ r ≤ at + 105 * n ⌝ }
 {
     let mut end = at;
     let mut i: usize = 0;
@@ -67,14 +80,14 @@ fn put_rows(text: &mut [u8], at: usize, out: &[u8], n: usize) -> usize
 
 // The header, and the lines of the first n queries.
 fn put_table(text: &mut [u8], out: &[u8], n: usize) -> usize
-    requires { ⌜ 95282 ≤ length (now text) ⌝ }
-    requires { ⌜ (n ≤ 1024) × (32 * n ≤ length (now out)) ⌝ }
+    requires { ⌜ 107575 ≤ length (now text) ⌝ }
+    requires { ⌜ (n ≤ 1024) × (36 * n ≤ length (now out)) ⌝ }
     ensures { λ r. ⌜ Appended (now (text .entry)) 0 (now (text .exit)) r (tableText (now (out .entry)) n) ⌝ }
 {
     let header_end = text::put_bytes(
         text,
         0,
-        b"query status n320 n300 n200 n100 n50 misses tried\n",
+        b"query status n320 n300 n200 n100 n50 misses tried left\n",
     );
     put_rows(text, header_end, out, n)
 }
@@ -85,7 +98,7 @@ pub fn print_sheet(sheet: &[u8], text: &mut [u8; ROOM]) -> usize
     ensures printed { λ r. ⌜ take r (now (text .exit)) ≡ printedOf (now (sheet .entry)) ⌝ }
     ensures beyond { λ r. ⌜ drop r (now (text .exit)) ≡ drop r (now (text .entry)) ⌝ }
 {
-    let mut out = [0u8; 32768];
+    let mut out = [0u8; 36864];
     match sheets::work_sheet(sheet, &mut out) {
         SheetAnswer::Worked(queries) => put_table(text, &out, queries as usize),
         SheetAnswer::Refused(stop) => text::put_refused(text, stop),

@@ -71,8 +71,8 @@ fn tell(what: &str, whose: &str, (ours, theirs): (f64, f64)) {
     );
 }
 
-fn generate(q: &Query) -> [u32; 7] {
-    let mut out = [0; 7];
+fn generate(q: &Query) -> [u32; 8] {
+    let mut out = [0; 8];
     ours::generate(q, &mut out);
     out
 }

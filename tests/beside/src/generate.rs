@@ -4,7 +4,7 @@
 use crate::{
     closest,
     inputs::{self, Rng, Size},
-    nearest, plain,
+    nearest, plain, plays,
     query::{Answer, Method, Query},
     repo,
     tally::Tally,
@@ -50,6 +50,12 @@ pub fn run(rng: &mut Rng) -> bool {
 
     for method in Method::ALL {
         tally.plays(method, answer);
+    }
+
+    for (q, _) in plays::left_over() {
+        for q in Method::ALL.map(|method| q.by(method)) {
+            tally.generate(&q, answer(&q));
+        }
     }
 
     for turn in 0..Size::new(5_000_000).random {

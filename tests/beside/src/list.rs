@@ -2,14 +2,14 @@
 //! replay without the repository. The limits and the document's plays come first, random inputs
 //! after them.
 //!
-//! A record has 80 bytes, little-endian:
+//! A record has 84 bytes, little-endian:
 //! - 0: kind u8 (0 accuracy, 1 target, 2 ignore_acc, 3 fast, 4 closest, 5 nearest). 1: priority u8.
 //!   2: classic u8. 3: presence u8. 4: n_objects. 8: n_hold_notes. 12, 16, 20, 24, 28: the five
 //!   counts. 32: misses. 36: passed, each u32. 40: acc, f64 bits. A missing field holds a number
 //!   that means nothing.
-//! - 48: status u32. Seven u32 from 52, zeros where the status is not 0: for accuracy its f64 bits,
+//! - 48: status u32. Eight u32 from 52, zeros where the status is not 0: for accuracy its f64 bits,
 //!   low half first; for target total hits, misses and the rounded target; for the others the five
-//!   counts, misses and tried.
+//!   counts, misses, tried and left, which is the bits of an i32.
 
 use std::{env, fs, io};
 
@@ -76,7 +76,7 @@ fn accuracies(rng: &mut Rng) -> Vec<Vec<u8>> {
             let answer = match accuracy::answer(&input, classic) {
                 Ok(bits) => Answer {
                     status: 0,
-                    values: [bits as u32, (bits >> 32) as u32, 0, 0, 0, 0, 0],
+                    values: [bits as u32, (bits >> 32) as u32, 0, 0, 0, 0, 0, 0],
                 },
                 Err(status) => Answer::refused(status),
             };
@@ -109,7 +109,7 @@ fn targets(rng: &mut Rng) -> Vec<Vec<u8>> {
         let (status, [total_hits, misses, _, target]) = target::answer(q);
         Answer {
             status,
-            values: [total_hits, misses, target, 0, 0, 0, 0],
+            values: [total_hits, misses, target, 0, 0, 0, 0, 0],
         }
     };
 

@@ -1,11 +1,12 @@
 //! Part nearest: the library's beside a plain walk written from document 01, which an enumeration
-//! of all splits judges on charts of up to 12 hits. With exactly two missing, Closest must lie as
-//! far from the rounded target.
+//! of all splits judges on charts of up to 12 hits: no split lies nearer than the size of left. With
+//! exactly two missing, Closest must lie as far from the rounded target. What is left is also
+//! compared with a list told by hand.
 
 use crate::{
     closest::SMALL,
     inputs::{self, Rng, Size},
-    ours,
+    ours, plays,
     query::{Answer, CHART, Method, Query},
     tally::Tally,
 };
@@ -130,10 +131,12 @@ pub fn walk(q: &Query) -> ([u32; 5], u32) {
 pub fn answer(q: &Query) -> Answer {
     match q.status() {
         0 => {
-            let ([n320, n300, n200, n100, n50], tried) = walk(q);
+            let (counts, tried) = walk(q);
+            let [n320, n300, n200, n100, n50] = counts;
+            let (misses, left) = (q.capped_misses(), q.left(&counts) as u32);
             Answer {
                 status: 0,
-                values: [n320, n300, n200, n100, n50, q.capped_misses(), tried],
+                values: [n320, n300, n200, n100, n50, misses, tried, left],
             }
         }
         status => Answer::refused(status),
@@ -159,6 +162,11 @@ fn nearest_split(given: &[Option<u32>], weights: &[u32], hits: u32, score: i64) 
         .min()
 }
 
+/// How far an answer says that it lies from the rounded target.
+fn size_of_left(answer: &Answer) -> u64 {
+    answer.left().unsigned_abs().into()
+}
+
 struct Part(Tally);
 
 impl Part {
@@ -177,14 +185,14 @@ impl Part {
 
     /// 14 if and only if there is no split; else the answer is a split and none is nearer.
     fn judge_by_all_splits(&mut self, q: &Query, answer: &Answer) {
-        let [counts @ .., _, _] = &answer.values;
+        let [counts @ .., _misses, _tried, _left] = &answer.values;
         let keeps = q
             .given()
             .iter()
             .zip(counts)
             .all(|(given, n)| given.is_none_or(|g| g == *n));
         let sums = counts.iter().sum::<u32>() == q.remain();
-        let found = (answer.status == 0 && keeps && sums).then(|| q.distance(counts));
+        let found = (answer.status == 0 && keeps && sums).then(|| size_of_left(answer));
         let nearest = nearest_split(&q.given(), &q.weights(), q.remain(), q.target());
 
         self.0.judge(
@@ -195,11 +203,11 @@ impl Part {
 
     /// With two missing, the library's Closest lies as far from the target.
     fn compare_with_closest(&mut self, q: &Query, answer: &Answer) {
-        let mut closest = [0; 7];
+        let mut closest = [0; 8];
         let status = ours::generate(&q.by(Method::Closest), &mut closest);
 
         self.0.judge(
-            status == 0 && q.distance(&closest[..5]) == q.distance(&answer.values[..5]),
+            status == 0 && q.distance(&closest[..5]) == size_of_left(answer),
             || format!("{q}: {answer}, where Closest's {status} {closest:?} is not as far"),
         );
     }
@@ -222,6 +230,11 @@ pub fn run(rng: &mut Rng) -> bool {
     let size = Size::new(2_000_000);
 
     part.0.plays(method, answer);
+
+    for (q, left) in plays::left_over() {
+        part.compare(&q);
+        part.0.left(&q, &answer(&q), left);
+    }
 
     inputs::exhaustive(method, SMALL, &mut |q| {
         if rng.one_in(size.one_in) {

@@ -1,7 +1,7 @@
-//! The plays of document 01 that name a method's answer, A to I. J and K are among the limits of
-//! every part.
+//! The plays of document 01 that name a method's answer, A to I, with document 02's left; J and K are
+//! among the limits of every part. Then other plays, of which Nearest leaves points.
 
-use crate::query::{ACC, Answer, MISSES, Method, NAMES, Query};
+use crate::query::{ACC, Answer, CHART, MISSES, Method, NAMES, Query};
 
 pub struct Play {
     pub label: char,
@@ -11,15 +11,17 @@ pub struct Play {
     misses: u32,
     /// Where the document gives it.
     tried: Option<u32>,
+    left: i32,
 }
 
 impl Play {
     pub fn holds(&self, answer: &Answer) -> bool {
-        let [counts @ .., misses, tried] = answer.values;
+        let [counts @ .., misses, tried, _left] = answer.values;
 
         answer.status == self.status
             && (self.status != 0 || counts == self.counts && misses == self.misses)
             && self.tried.is_none_or(|n| n == tried)
+            && answer.left() == self.left
     }
 }
 
@@ -84,6 +86,7 @@ pub fn of(method: Method) -> Vec<Play> {
         counts,
         misses: query.capped_misses(),
         tried: None,
+        left: 0,
     };
     let stopped = |label, query, status| Play {
         status,
@@ -93,6 +96,7 @@ pub fn of(method: Method) -> Vec<Play> {
         tried: Some(n),
         ..play
     };
+    let left = |n, play| Play { left: n, ..play };
 
     match method {
         Method::IgnoreAcc => vec![
@@ -115,8 +119,74 @@ pub fn of(method: Method) -> Vec<Play> {
             play('B', b, [5, 0, 0, 0, 0]),
             play('C', c, [5, 0, 5, 10, 0]),
             stopped('D', d, 14),
-            tried(3, play('E', e, [0, 0, 20, 0, 0])),
-            play('H', h, [0; 5]),
+            left(420, tried(3, play('E', e, [0, 0, 20, 0, 0]))),
+            left(244, play('H', h, [0; 5])),
         ],
     }
+}
+
+/// Plays by Nearest and what they leave, told by hand: targets below, between and above all splits,
+/// and the largest charts.
+pub fn left_over() -> Vec<(Query, i64)> {
+    let zeros = NAMES.map(|name| (name, 0));
+    // All five given, one of them with all the hits.
+    let all = |of, n| NAMES.map(|name| (name, if name == of { n } else { 0 }));
+    // Five given zeros, but for those that are missing.
+    let but = |missing: &[&str]| {
+        let mut given = zeros.to_vec();
+        given.retain(|(name, _)| !missing.contains(name));
+        given
+    };
+    let ten = |given: &[_]| chart(10, given);
+    let classic = |q| Query { classic: true, ..q };
+    let largest = |given: &[_]| Query {
+        n_hold_notes: CHART,
+        ..chart(CHART, given)
+    };
+
+    // Its splits have 100 points, 130, and so on to 400.
+    let stepped = ten(&but(&["n200", "n50"]));
+
+    // Each with its rounded target and what is left.
+    let told = [
+        (ten(&[]), 0, -100),
+        (ten(&[]), 99, -1),
+        (ten(&[]), 101, 1),
+        (ten(&[]), 105, 5),
+        (ten(&[]), 106, -4),
+        (missed(ten(&[]), 3), 610, 183),
+        (stepped, 0, -100),
+        (stepped, 99, -1),
+        (stepped, 100, 0),
+        (stepped, 101, 1),
+        (stepped, 309, -1),
+        (stepped, 310, 0),
+        (stepped, 311, 1),
+        (stepped, 325, 15),
+        (stepped, 326, -14),
+        (stepped, 399, -1),
+        (stepped, 400, 0),
+        (stepped, 401, 1),
+        (stepped, 430, 30),
+        (stepped, 610, 210),
+        // The only split that there is, by one missing count, by none, and without hits.
+        (ten(&but(&["n50"])), 0, -100),
+        (ten(&but(&["n50"])), 610, 510),
+        (ten(&but(&["n320"])), 0, -610),
+        (classic(ten(&but(&["n320", "n300"]))), 599, -1),
+        (ten(&all("n320", 10)), 0, -610),
+        (ten(&all("n320", 10)), 609, -1),
+        (ten(&all("n50", 10)), 610, 510),
+        (classic(ten(&all("n320", 10))), 588, -12),
+        (missed(ten(&[]), 10), 610, 610),
+        (missed(ten(&[]), 10), 0, 0),
+        (missed(ten(&zeros), 10), 305, 305),
+        (largest(&[]), 0, -2_000_000),
+        (largest(&[("n50", 2 * CHART)]), 12_200_000, 10_200_000),
+        (largest(&all("n320", 2 * CHART)), 0, -12_200_000),
+        (missed(largest(&[]), 2 * CHART), 12_200_000, 12_200_000),
+    ];
+
+    told.map(|(q, target, left)| (aimed(q, target).by(Method::Nearest), left))
+        .to_vec()
 }

@@ -56,19 +56,23 @@ pub struct Query {
     pub acc: f64,
 }
 
-/// A status and, where it is 0, the five counts, misses and tried.
+/// A status and, where it is 0, the five counts, misses, tried and the bits of left.
 #[derive(Clone, Copy, Debug, PartialEq, Eq)]
 pub struct Answer {
     pub status: u32,
-    pub values: [u32; 7],
+    pub values: [u32; 8],
 }
 
 impl Answer {
     pub fn refused(status: u32) -> Self {
         Self {
             status,
-            values: [0; 7],
+            values: [0; 8],
         }
+    }
+
+    pub fn left(&self) -> i32 {
+        self.values[7] as i32
     }
 }
 
@@ -160,9 +164,14 @@ impl Query {
         counts.iter().zip(self.weights()).map(points).sum()
     }
 
+    /// What these counts leave of the rounded target, negative where their points are above it.
+    pub fn left(&self, counts: &[u32]) -> i64 {
+        self.target() - self.points(counts)
+    }
+
     /// How far these counts lie from the rounded target.
     pub fn distance(&self, counts: &[u32]) -> u64 {
-        self.points(counts).abs_diff(self.target())
+        self.left(counts).unsigned_abs()
     }
 
     pub fn chart_over(&self) -> bool {
@@ -236,7 +245,7 @@ impl fmt::Display for Query {
 impl fmt::Display for Answer {
     fn fmt(&self, f: &mut fmt::Formatter<'_>) -> fmt::Result {
         match self.status {
-            0 => write!(f, "{:?}", self.values),
+            0 => write!(f, "{:?} left {}", &self.values[..7], self.left()),
             status => write!(f, "refused {status}"),
         }
     }

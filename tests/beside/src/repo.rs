@@ -188,7 +188,7 @@ pub fn answer(q: &Query) -> Answer {
     match outcome {
         Ok(r) => Answer {
             status: 0,
-            values: [r.n320, r.n300, r.n200, r.n100, r.n50, r.misses, 0],
+            values: [r.n320, r.n300, r.n200, r.n100, r.n50, r.misses, 0, 0],
         },
         Err(panic) => match panic.downcast_ref::<&str>() {
             Some(message)

@@ -1,7 +1,7 @@
 //! Part rising: document 02's L8 over the bytes that the library writes. Rows of Nearest that are
 //! alike but for acc are worked in sheets, in any order. Put in the order of their rounded targets,
-//! the points of their counts never fall, and equal targets have the same six counts. Rows among
-//! them whose acc is refused are left out.
+//! the points of their counts never fall, and equal targets have the same six counts. The left of
+//! each is its target less those points. Rows among them whose acc is refused are left out.
 
 use std::{collections::BTreeSet, fmt};
 
@@ -35,7 +35,7 @@ struct Row {
 impl Row {
     /// A row with status 0.
     fn new(q: &Query, answer: &Answer) -> Self {
-        let [six @ .., _tried] = answer.values;
+        let [six @ .., _tried, _left] = answer.values;
 
         Self {
             target: q.target(),
@@ -79,6 +79,7 @@ impl Part<'_> {
                 });
 
                 if answer.status == 0 {
+                    self.tally.left(q, &answer, q.left(&answer.values[..5]));
                     rows.push(Row::new(q, &answer));
                 }
             }

@@ -12,7 +12,7 @@ pub const QUERIES: usize = 1_024;
 
 /// Bytes of a query and of an answer.
 pub const ROW: usize = 44;
-pub const ANSWER: usize = 32;
+pub const ANSWER: usize = 36;
 
 pub type Chart = (u32, u32);
 pub type Row = [u8; ROW];

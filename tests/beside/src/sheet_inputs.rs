@@ -63,6 +63,7 @@ pub fn fixed(visit: &mut dyn FnMut(&[u8])) {
     nonzero(rng, visit);
     presences(rng, visit);
     documented(visit);
+    visit(&left_over());
 }
 
 /// A row for each method, over two charts.
@@ -168,10 +169,24 @@ fn presences(rng: &mut Rng, visit: &mut dyn FnMut(&[u8])) {
     }
 }
 
-/// Document 01's plays, each with a chart of its own.
+/// Document 01's plays.
 fn documented(visit: &mut dyn FnMut(&[u8])) {
     let plays = Method::ALL.into_iter().flat_map(plays::of);
     let queries: Vec<_> = plays.map(|play| play.query).collect();
+
+    visit(&own_charts(&queries));
+}
+
+/// The plays of which Nearest leaves points, by every method.
+pub fn left_over() -> Vec<u8> {
+    let by_all = |(q, _): (Query, i64)| Method::ALL.map(|method| q.by(method));
+    let queries: Vec<_> = plays::left_over().into_iter().flat_map(by_all).collect();
+
+    own_charts(&queries)
+}
+
+/// A sheet of these queries, each with a chart of its own.
+pub fn own_charts(queries: &[Query]) -> Vec<u8> {
     let charts: Vec<_> = queries
         .iter()
         .map(|q| (q.n_objects, q.n_hold_notes))
@@ -182,7 +197,7 @@ fn documented(visit: &mut dyn FnMut(&[u8])) {
         .map(|(i, q)| sheet::row(i, q))
         .collect();
 
-    visit(&sheet::bytes(&charts, &rows));
+    sheet::bytes(&charts, &rows)
 }
 
 /// A chart: small, so large that Closest's search is long, at the limit, or over it.

@@ -5,7 +5,7 @@ use std::io;
 
 use crate::{
     inputs::{Rng, Size},
-    ours,
+    ours, plays,
     program::{self, Program, hex},
     query::Answer,
     sheet::{self, ANSWER},
@@ -22,10 +22,10 @@ const AROUND: usize = 16;
 /// The most that the program reads.
 const READ: usize = 47_113;
 
-/// What document 01 prints for its example.
-const EXAMPLE: &str = "query status n320 n300 n200 n100 n50 misses tried
-0 0 0 0 20 0 0 0 3
-1 13 0 0 0 0 0 0 0
+/// What document 01 prints for its example, with document 02's left.
+const EXAMPLE: &str = "query status n320 n300 n200 n100 n50 misses tried left
+0 0 0 0 20 0 0 0 3 420
+1 13 0 0 0 0 0 0 0 0
 ";
 
 struct Part<'a> {
@@ -89,6 +89,16 @@ impl Part<'_> {
         });
     }
 
+    /// Compares rows alone in their sheets, with outputs of every length up to one past the answer.
+    fn one_row(&mut self) {
+        for (q, _) in plays::left_over() {
+            let bytes = sheet_inputs::own_charts(&[q]);
+            let answers = sheet::answers(&bytes);
+            self.tally.inputs += 1;
+            (0..=ANSWER + 1).for_each(|len| self.work(&bytes, &answers, len));
+        }
+    }
+
     /// Compares what the program prints.
     fn run(&mut self, bytes: &[u8]) {
         let right = text(&sheet::answers(&bytes[..bytes.len().min(READ)]));
@@ -103,11 +113,12 @@ fn text(answers: &Result<Vec<Answer>, u32>) -> String {
         Err(status) => return format!("refused {status}\n"),
     };
 
-    let mut text = String::from("query status n320 n300 n200 n100 n50 misses tried\n");
+    let mut text = String::from("query status n320 n300 n200 n100 n50 misses tried left\n");
 
-    for (i, Answer { status, values }) in answers.iter().enumerate() {
-        let values = values.map(|n| n.to_string()).join(" ");
-        text += &format!("{i} {status} {values}\n");
+    for (i, answer) in answers.iter().enumerate() {
+        let [values @ .., _left] = answer.values.map(|n| n.to_string());
+        let (status, left) = (answer.status, answer.left());
+        text += &format!("{i} {status} {} {left}\n", values.join(" "));
     }
 
     text
@@ -134,6 +145,8 @@ pub fn run(rng: &mut Rng) -> bool {
         format!("the example: {answers}, not as document 01 says")
     });
     part.run(&example);
+    part.run(&sheet_inputs::left_over());
+    part.one_row();
 
     sheet_inputs::fixed(&mut |bytes| part.compare(bytes));
 

@@ -112,6 +112,13 @@ impl Tally {
         }
     }
 
+    /// Compares the points that an answer leaves of the rounded target.
+    pub fn left(&mut self, q: &Query, answer: &Answer, right: i64) {
+        self.judge(i64::from(answer.left()) == right, || {
+            format!("{q}: {answer}, where {right} is left")
+        });
+    }
+
     /// Compares the direct call with an answer, and the answer's status with document 01's.
     pub fn generate(&mut self, q: &Query, answer: Answer) {
         self.output(

@@ -18,7 +18,7 @@ returns : tie.Need-returns
 returns c =
     let x = c .before .before .args in
     let q = queryBy (x .objects) (x .holds) (x .method) (x .priority) (x .classic) (x .presence) (sixCounts (x .n320) (x .n300) (x .n200) (x .n100) (x .n50) (x .misses)) (x .passed) (x .acc) in
-    (handed-short 7 (generateAnswer q) (x .out .now) (c .if1 .taken), λ (h : 7 ≤ length (x .out .now)). absurd (not-le-of-lt (c .if1 .taken) h))
+    (handed-short 8 (generateAnswer q) (x .out .now) (c .if1 .taken), λ (h : 8 ≤ length (x .out .now)). absurd (not-le-of-lt (c .if1 .taken) h))
 
 acc-of-requires : tie.Need-acc-of-requires
 acc-of-requires c κs = tt
@@ -39,7 +39,7 @@ returns-2 c =
     let q = queryBy (x .objects) (x .holds) (x .method) (x .priority) (x .classic) (x .presence) (sixCounts (x .n320) (x .n300) (x .n200) (x .n100) (x .n50) (x .misses)) (x .passed) (x .acc) in
     let e : generatedOf (c .before .before .before .before .generate .result) ≡ generateAnswer q =
     c .before .before .before .before .generate .ensures ∙ rw (c .before .before .before .before .before .acc-of .ensures) in
-    (c .before .before .hand .ensures .0 ∙ ap (λ (a : Answer (List ℕ)). handed 7 a (x .out .now)) e, λ (h : 7 ≤ length (x .out .now)). c .before .before .hand .ensures .1 ∙ e)
+    (c .before .before .hand .ensures .0 ∙ ap (λ (a : Answer (List ℕ)). handed 8 a (x .out .now)) e, λ (h : 8 ≤ length (x .out .now)). c .before .before .hand .ensures .1 ∙ e)
 
 pub generate-spec : {M : Type 1} → statement M
 generate-spec =

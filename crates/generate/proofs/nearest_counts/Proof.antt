@@ -1,35 +1,31 @@
 -- `generate::nearest_counts` meets its contract. Assumes nothing.
-use Prim.Native.Nat.{ℕ}
+use Prim.Native.Nat.{ℕ, _≤_}
+use mathlib.Core.List.{List, [], _∷_}
+use mathlib.Core.Option.{some}
 use mathlib.Core.Path.{_≡_, sym, ap, subst, _∙_}
+use native.Mathlib.Nat.{le-trans}
 use native.Mathlib.Omega.{arith}
-use Rattle.score_state.specs.Points.{perfectWeight, weightsOf}
-use Rattle.inspect.specs.Inspect.{inspectOf}
+use lib.IntN.{subℕ}
+use mir.Syntax.{w32}
+use mir.ValLaws.{toZ-ofZ}
+use Rattle.units.specs.Limits.{mostHits, mostPoints}
+use Rattle.points_left.specs.Left.{most31}
+use Rattle.score_state.specs.Points.{hits, points, perfectWeight, weightsOf}
+use Rattle.score_state.specs.Accuracy.{Capped}
+use Rattle.inspect.specs.Inspect.{inspectOf, givens}
 use Rattle.inspect.specs.Target.{target}
-use Rattle.nearest_laws.specs.Nearest.{Weighting, standard-weighting}
+use Rattle.inspect.proofs.Checked.{total-within}
+use Rattle.nearest_laws.specs.Nearest.{Weighting, standard-weighting, nearest}
 use Rattle.nearest.specs.Outcome.{foundOf, outcomeOf}
-use Rattle.generate_laws.specs.Method3.{targetOf}
-use Rattle.generate_laws.proofs.Answered.{nearest-found, nearest-none}
+use Rattle.generate_laws.specs.Generate.{targetOf}
+use Rattle.generate_laws.proofs.Left.{target-within}
+use Rattle.generate_laws.proofs.Answered.{found-within, nearest-found, nearest-none}
 use borrow.Author.Needs.{needs}
 use Rattle.generate.proofs.nearest_counts.Statement.{statement}
 use Rattle.generate.proofs.nearest_counts.Tie as tie
 
-total-hits-requires : tie.Need-total-hits-requires
-total-hits-requires c κs = search needs
-
-misses-requires : tie.Need-misses-requires
-misses-requires c κs = search needs
-
-remain-requires : tie.Need-remain-requires
-remain-requires c κs = search needs
-
-perfect-weight-requires : tie.Need-perfect-weight-requires
-perfect-weight-requires c κs = tt
-
 target-of-requires : tie.Need-target-of-requires
 target-of-requires c κs = (c .before .before .before .before .pre .1 .0, (c .before .before .before .before .pre .1 .1, (omega arith, omega arith)))
-
-standard-weights-requires : tie.Need-standard-weights-requires
-standard-weights-requires c κs = tt
 
 nearest-requires : tie.Need-nearest-requires
 nearest-requires c κs =
@@ -45,15 +41,6 @@ nearest-requires c κs =
       n50 = d .n50;
     }
 
-enum-known-split : tie.Need-enum-known-split
-enum-known-split c = search needs
-
-of-requires : tie.Need-of-requires
-of-requires c κs = tt
-
-enum-told : tie.Need-enum-told
-enum-told c = search needs
-
 -- the target that the walk is given is the query's
 target-is : (s : tie.After-standard-weights) → s .before .target-of .result .0 ≡ targetOf (inspectOf (s .before .before .before .before .before .before .args .q)) (s .before .before .before .before .before .before .args .acc)
 target-is s =
@@ -62,15 +49,67 @@ target-is s =
     ∙ ap (λ (w : ℕ). target (x .acc) w (s .before .before .before .before .before .total-hits .result .0)) (s .before .before .perfect-weight .ensures .0)
     ∙ ap (λ (t : ℕ). target (x .acc) (perfectWeight (x .q .classic)) t) (s .before .before .before .before .before .total-hits .ensures .0)
 
+-- ---- the split that is found
+module _ (c : tie.After-split) where
+  abbrev s : tie.After-standard-weights
+  s = c .before .before .before
+
+  abbrev ws : List ℕ
+  ws = weightsOf (s .standard-weights .result)
+
+  abbrev five : List ℕ
+  five = foundOf (c .split .given .0 .0) .counts
+
+  found : some (foundOf (c .split .given .0 .0)) ≡ nearest ws (givens (inspectOf (s .before .before .before .before .before .before .args .q))) (s .before .target-of .result .0) (s .before .before .before .remain .result .0)
+  found = sym (ap outcomeOf (c .split .given .1)) ∙ c .before .before .nearest .ensures
+
+  within : (hits five ≤ mostHits) × (points ws five ≤ mostPoints)
+  within =
+      let x = s .before .before .before .before .before .before in
+      found-within (inspectOf (x .args .q)) (x .args .acc) ws (s .before .target-of .result .0) (s .before .before .before .remain .result .0) (s .before .before .before .before .misses .result .0)
+      (s .standard-weights .ensures .0) (target-is s) (s .before .before .before .remain .ensures .0) (s .before .before .before .before .misses .ensures .0)
+      (foundOf (c .split .given .0 .0)) found (total-within (x .args .q) (x .pre .0))
+
+  missed : s .before .before .before .before .misses .result .0 ≤ mostHits
+  missed =
+      let x = s .before .before .before .before .before .before in
+      le-trans (s .before .before .before .before .misses .ensures .1) (total-within (x .args .q) (x .pre .0))
+
+  aimed : s .before .target-of .result .0 ≤ most31
+  aimed =
+      let x = s .before .before .before .before .before .before in
+      omega (arith, target-is s, target-within (inspectOf (x .args .q)) (x .args .acc) (total-within (x .args .q) (x .pre .0)) (x .pre .1 .0, x .pre .1 .1))
+
+-- so few hits are within the cap
+within-cap
+    : (a b c d e m : ℕ) → hits (a ∷ b ∷ c ∷ d ∷ e ∷ []) ≤ mostHits → m ≤ mostHits
+    → Capped (record { n320 = a; n300 = b; n200 = c; n100 = d; n50 = e; misses = m })
+unfolding hits
+within-cap a b c d e m h k = record { n320 = omega arith; n300 = omega arith; n200 = omega arith; n100 = omega arith; n50 = omega arith; misses = omega arith }
+
+points-of-requires : tie.Need-points-of-requires
+points-of-requires c κs =
+    let k = c .before .before .before in
+    (s k .standard-weights .ensures .1, subst Capped (sym (c .of .ensures)) (within-cap _ _ _ _ _ _ (within k .0) (missed k)))
+
+left-of-requires : tie.Need-left-of-requires
+left-of-requires c κs =
+    let k = c .before .before .before .before in
+    let p : c .points-of .result .0 ≡ points (ws k) (five k) = rw (c .before .of .ensures) at (c .points-of .ensures) in
+    let l : c .points-of .result .0 ≤ most31 = omega (arith, within k .1) in
+    let t = aimed k in
+    search needs
+
 returns : tie.Need-returns
 returns c =
-    let s = c .before .before .before .before .before .before in
+    let k = c .before .before .before .before .before in
+    let s = k .before .before .before in
     let x = s .before .before .before .before .before .before .args in
-    rw (c .of .ensures)
-    (nearest-found (inspectOf (x .q)) (x .acc) (weightsOf (s .standard-weights .result)) (s .before .target-of .result .0) (s .before .before .before .remain .result .0) (s .before .before .before .before .misses .result .0)
+    rw (c .before .before .of .ensures, toZ-ofZ w32 (c .left-of .result) (record { sfits = c .left-of .ok }))
+    (nearest-found (inspectOf (x .q)) (x .acc) (ws k) (s .before .target-of .result .0) (s .before .before .before .remain .result .0) (s .before .before .before .before .misses .result .0)
     (s .standard-weights .ensures .0) (target-is s) (s .before .before .before .remain .ensures .0) (s .before .before .before .before .misses .ensures .0)
-    (foundOf (c .before .before .before .split .given .0 .0))
-    (sym (ap outcomeOf (c .before .before .before .split .given .1)) ∙ c .before .before .before .before .before .nearest .ensures))
+    (foundOf (k .split .given .0 .0)) (c .left-of .result) (found k)
+    (c .left-of .ensures ∙ ap (subℕ (s .before .target-of .result .0)) (rw (c .before .before .of .ensures) at (c .before .points-of .ensures))))
 
 returns-2 : tie.Need-returns-2
 returns-2 c =
@@ -84,15 +123,17 @@ pub nearest-counts-spec : {M : Type 1} → statement M
 nearest-counts-spec =
     tie.close
     (tie.spec
-    total-hits-requires
-    misses-requires
-    remain-requires
-    perfect-weight-requires
+    (λ c κs. search needs)
+    (λ c κs. search needs)
+    (λ c κs. search needs)
+    (λ c κs. tt)
     target-of-requires
-    standard-weights-requires
+    (λ c κs. tt)
     nearest-requires
-    enum-known-split
-    of-requires
-    enum-told
+    (λ c. search needs)
+    (λ c κs. tt)
+    points-of-requires
+    left-of-requires
+    (λ c. search needs)
     returns
     returns-2)

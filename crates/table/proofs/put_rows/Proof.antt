@@ -11,7 +11,7 @@ use Rattle.table.proofs.put_rows.Statement.{statement}
 use Rattle.table.proofs.put_rows.Tie as tie
 
 abbrev Inv-loop : tie.InvT-loop
-Inv-loop text₀ at out n end₀ i₀ text end i = (i ≤ n) × (length text ≡ length text₀) × (end ≤ at + 93 * i) × Appended text₀ at text end (joined (rowText out) i)
+Inv-loop text₀ at out n end₀ i₀ text end i = (i ≤ n) × (length text ≡ length text₀) × (end ≤ at + 105 * i) × Appended text₀ at text end (joined (rowText out) i)
 
 abbrev μ-loop : tie.MeasureT-loop
 μ-loop text₀ at out n end₀ i₀ text end i = n - i
