@@ -24,23 +24,25 @@ use Rattle.inspect.specs.Checks.{chartOver, unknownCode, countOver, accOutside,
 use Rattle.score_state.specs.Answer.{Answer, worked, refused, statusOf, valuesOf}
 use Rattle.inspect.specs.declared.Query.{Query}
 use Rattle.inspect.proofs.Checked.{domain, remain-and-misses, total-within}
+use Rattle.ignore_acc.specs.IgnoreAcc.{ignoreAcc}
+use Rattle.fast.specs.Fast.{fast}
 use Rattle.closest_laws.specs.Closest.{weights, provided, six, byMissing, playOf, optimizeTwoMissing, optimizeThreePlusMissing, clampAndFill, closestAt}
 use Rattle.nearest_laws.specs.Split.{IsSplit}
 use Rattle.nearest_laws.specs.Nearest.{Found, nearest, stops, standard-weighting}
 use Rattle.nearest_laws.proofs.Nearest.{nearest-split, nearest-near, nearest-stops, answered}
 use Rattle.nearest_laws.proofs.Tried.{tried-standard}
-use Rattle.generate_laws.specs.Generate.{untried, closestOf, targetOf, pointsLeft, foundOf, nearestOf, byMethod, answerBy, generateAnswer}
+use Rattle.generate_laws.specs.Generate.{counted, untried, closestOf, targetOf, pointsLeft, foundOf, nearestOf, byMethod, answerBy, generateAnswer}
 use Rattle.generate_laws.specs.Method3.{fiveOf, leftOf, distanceOf, walkOf, IsNearest}
 use Rattle.generate_laws.proofs.Exact.{exactOf, exact-is}
 use Rattle.generate_laws.proofs.EquallyFar.{equally-far, closest-hits}
 use Rattle.generate_laws.proofs.Left.{left-within}
 
 -- ---- what the direct call answers once the shared checks pass
-pub passes : (q : Query) → stopOf q ≡ 0 → generateAnswer q ≡ byMethod (q .method) (inspectOf q)
+passes : (q : Query) → stopOf q ≡ 0 → generateAnswer q ≡ byMethod (q .method) (inspectOf q)
 unfolding generateAnswer answerBy
 passes q e = rw (eq-eqb (stopOf q) 0 e)
 
-pub halts : (q : Query) → (stopOf q ≡ 0 → ⊥) → generateAnswer q ≡ refused (stopOf q)
+halts : (q : Query) → (stopOf q ≡ 0 → ⊥) → generateAnswer q ≡ refused (stopOf q)
 unfolding generateAnswer answerBy
 halts q n = rw (ne-eqb (stopOf q) 0 n)
 
@@ -150,7 +152,7 @@ either-12 : (b : Bool) (r : HitResults) → SixOr12 (cond b (refused 12) (worked
 either-12 true r = refused-12
 either-12 false r = six-counts r
 
-pub closest-six : (i : Inspect) (acc : Float) → SixOr12 (closestAt i acc)
+closest-six : (i : Inspect) (acc : Float) → SixOr12 (closestAt i acc)
 unfolding closestAt
 closest-six i acc = go (eqb (remain i) 0) (length (missing (weights (playOf i acc)) (provided (playOf i acc))))
   where
@@ -176,29 +178,47 @@ exact-small i (some acc) = rw untried-status (closest-six i acc .0)
 closest-small : (q : Query) → Domain q → statusOf (closestOf (inspectOf q) (inspectOf q .acc)) ≤ 12
 closest-small q d = rw (exact-is q d) (exact-small (inspectOf q) (inspectOf q .acc))
 
-found-status : (i : Inspect) (acc : Float) (o : Option Found) → statusOf (foundOf i acc o) ≤ 14
-unfolding foundOf
-found-status i acc none = omega arith
-found-status i acc (some f) = omega arith
+-- ---- What holds of every kind of answer holds of what the direct call answers: six counts, Closest's answer, a refusal, a walk's.
+module _ (q : Query) (P : Answer (List ℕ) → Type 0)
+    (six-hold : (r : HitResults) → P (counted r))
+    (closest-holds : (a : Answer (List ℕ)) → SixOr12 a → P (untried a))
+    (refusal-holds : (n : ℕ) → 0 < n → n ≤ 14 → P (refused n))
+    (walk-holds : q .method ≡ 3 → (acc : Float) (f : Found) → P (foundOf (inspectOf q) acc (some f))) where
+  by-exact : (o : Option Float) → P (exactOf (inspectOf q) o)
+  unfolding exactOf
+  by-exact none = six-hold (ignoreAcc (inspectOf q))
+  by-exact (some acc) = closest-holds (closestAt (inspectOf q) acc) (closest-six (inspectOf q) acc)
 
-nearest-status : (i : Inspect) (o : Option Float) → statusOf (nearestOf i o) ≤ 14
-unfolding nearestOf
-nearest-status i none = omega arith
-nearest-status i (some acc) = found-status i acc (walked i acc)
+  by-found : q .method ≡ 3 → (acc : Float) (o : Option Found) → P (foundOf (inspectOf q) acc o)
+  by-found m acc none = unfold foundOf in refusal-holds 14 (omega arith) (omega arith)
+  by-found m acc (some f) = walk-holds m acc f
 
-method-status : (m : ℕ) (q : Query) → Domain q → statusOf (byMethod m (inspectOf q)) ≤ 14
-unfolding byMethod
-method-status zero q d = omega arith
-method-status (suc zero) q d = omega arith
-method-status (suc (suc zero)) q d = omega (arith, closest-small q d)
-method-status (suc (suc (suc n))) q d = nearest-status (inspectOf q) (inspectOf q .acc)
+  by-nearest : q .method ≡ 3 → (o : Option Float) → P (nearestOf (inspectOf q) o)
+  unfolding nearestOf
+  by-nearest m none = refusal-holds 13 (omega arith) (omega arith)
+  by-nearest m (some acc) = by-found m acc (walked (inspectOf q) acc)
+
+  by-number : (m : ℕ) → q .method ≡ m → Domain q → P (byMethod m (inspectOf q))
+  unfolding byMethod
+  by-number zero e d = six-hold (ignoreAcc (inspectOf q))
+  by-number (suc zero) e d = six-hold (fast (inspectOf q))
+  by-number (suc (suc zero)) e d = rw (exact-is q d) (by-exact (inspectOf q .acc))
+  by-number (suc (suc (suc m))) e d = by-nearest (omega (arith, d .method)) (inspectOf q .acc)
+
+  pub every-answer : P (generateAnswer q)
+  every-answer = go (eqb (stopOf q) 0) refl
+    where
+      go : (b : Bool) → eqb (stopOf q) 0 ≡ b → P (generateAnswer q)
+      go true b = let p = eqb-true (stopOf q) 0 b in rw (passes q p) (by-number (q .method) refl (domain q p))
+      go false b =
+          let n = eqb-false (stopOf q) 0 b in
+          rw (halts q n) (refusal-holds (stopOf q) (omega arith) (omega (arith, stop-small q)))
 
 pub status-small : (q : Query) → statusOf (generateAnswer q) ≤ 14
-status-small q = go (eqb (stopOf q) 0) refl
-  where
-    go : (b : Bool) → eqb (stopOf q) 0 ≡ b → statusOf (generateAnswer q) ≤ 14
-    go true b = let p = eqb-true (stopOf q) 0 b in rw (passes q p) (method-status (q .method) q (domain q p))
-    go false b = rw (halts q (eqb-false (stopOf q) 0 b)) (omega (arith, stop-small q))
+unfolding foundOf
+status-small q =
+    every-answer q (λ (a : Answer (List ℕ)). statusOf a ≤ 14) (λ r. omega arith) (λ a h. rw (untried-status a) (omega (arith, h .0))) (λ n p l. l)
+    (λ m acc f. omega arith)
 
 -- an answer of five counts at least, which are no more than a chart's hits, and a left whose bits fit u32
 pub record Small (a : Answer (List ℕ)) : Type 0 where
@@ -387,37 +407,9 @@ equally q r mq mr same two eq er =
     (both-answer i (i .acc) refl two (ap statusOf (sym a) ∙ eq) (ap statusOf (sym b) ∙ er)
     (total-within q d) (d .acc))
 
--- ---- "otherwise 0": left of every answer but that of a method 3 query with status 0
-exact-left : (i : Inspect) (o : Option Float) → getD (valuesOf (exactOf i o)) 7 0 ≡ 0
-unfolding exactOf
-exact-left i none = refl
-exact-left i (some acc) = untried-left (closestAt i acc) (closest-six i acc)
-
-found-left : (i : Inspect) (acc : Float) (o : Option Found) → (statusOf (foundOf i acc o) ≡ 0 → ⊥) → getD (valuesOf (foundOf i acc o)) 7 0 ≡ 0
+-- "otherwise 0": left of every answer but that of a method 3 query with status 0
+pub left-otherwise : (q : Query) → (q .method ≡ 3 → statusOf (generateAnswer q) ≡ 0 → ⊥) → getD (valuesOf (generateAnswer q)) 7 0 ≡ 0
 unfolding foundOf
-found-left i acc none n = refl
-found-left i acc (some f) n = absurd (n refl)
-
-nearest-left : (i : Inspect) (o : Option Float) → (statusOf (nearestOf i o) ≡ 0 → ⊥) → getD (valuesOf (nearestOf i o)) 7 0 ≡ 0
-unfolding nearestOf
-nearest-left i none n = refl
-nearest-left i (some acc) n = found-left i acc (walked i acc) n
-
-method-left
-    : (m : ℕ) (q : Query) → Domain q → m ≤ 3 → (m ≡ 3 → statusOf (byMethod m (inspectOf q)) ≡ 0 → ⊥)
-    → getD (valuesOf (byMethod m (inspectOf q))) 7 0 ≡ 0
-unfolding byMethod
-method-left zero q d l n = refl
-method-left (suc zero) q d l n = refl
-method-left (suc (suc zero)) q d l n = rw (exact-is q d) (exact-left (inspectOf q) (inspectOf q .acc))
-method-left (suc (suc (suc m))) q d l n = nearest-left (inspectOf q) (inspectOf q .acc) (n (omega arith))
-
-pub left-otherwise
-    : (q : Query) → (q .method ≡ 3 → statusOf (generateAnswer q) ≡ 0 → ⊥) → getD (valuesOf (generateAnswer q)) 7 0 ≡ 0
-left-otherwise q n = go (eqb (stopOf q) 0) refl
-  where
-    go : (b : Bool) → eqb (stopOf q) 0 ≡ b → getD (valuesOf (generateAnswer q)) 7 0 ≡ 0
-    go true b =
-        let p = eqb-true (stopOf q) 0 b in
-        rw (passes q p) (method-left (q .method) q (domain q p) (domain q p .method) (λ m z. n m (ap statusOf (passes q p) ∙ z)))
-    go false b = rw (halts q (eqb-false (stopOf q) 0 b)) refl
+left-otherwise q =
+    every-answer q (λ (a : Answer (List ℕ)). (q .method ≡ 3 → statusOf a ≡ 0 → ⊥) → getD (valuesOf a) 7 0 ≡ 0) (λ r n. refl)
+    (λ a h n. untried-left a h) (λ n p l z. refl) (λ m acc f n. absurd (n m refl))

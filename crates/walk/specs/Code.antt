@@ -1,5 +1,5 @@
--- Document 01, Nearest, steps 2 to 4, whose definition is nearest_laws/specs/Walk.antt: the code's structs as its values, and what the
--- functions of the walk ask.
+-- Document 01, Nearest, steps 2 to 4, whose definition is nearest_laws/specs/Walk.antt: the code's structs as its values, what the
+-- functions of the walk ask, and (document 02, L1) what the division tells of the lower candidate.
 use Prim.Native.Nat.{ℕ, _+_, _-_, _*_, _<_, _≤_}
 use mathlib.Core.Path.{_≡_}
 use mathlib.Core.List.{List, [], _∷_, _++_}
