@@ -17,14 +17,19 @@ BEST_CASE, WORST_CASE = range(2)
 FIELDS = ("n320", "n300", "n200", "n100", "n50", "misses", "acc", "passed")
 
 
-def query(chart, method, priority=BEST_CASE, classic=False, **given):
-    """The 44 bytes of a query: the chart's index, how to work it, and the fields that are given."""
+def query(chart, method, priority=BEST_CASE, classic=False, holds=None, **given):
+    """The 48 bytes of a query: the chart's index, how to work it, and the fields that are given.
+
+    holds is how many hold notes were passed in a play that was broken off: where it is given, 0 too, byte 6 is 1 and the last
+    field has the number, else both are 0 and the chart's hold notes count in full.
+    """
     unknown = given.keys() - set(FIELDS)
     if unknown:
         raise TypeError(f"no field {unknown}")
     presence = sum(1 << bit for bit, name in enumerate(FIELDS) if name in given)
     counts = [given.get(name, 0) for name in ("n320", "n300", "n200", "n100", "n50", "misses", "passed")]
-    return struct.pack("<HBBBBH7Id", chart, method, priority, classic, presence, 0, *counts, given.get("acc", 0.0))
+    codes = (chart, method, priority, classic, presence, holds is not None, 0)
+    return struct.pack("<HBBBBBB7IdI", *codes, *counts, given.get("acc", 0.0), holds or 0)
 
 
 def sheet(charts, queries):
@@ -52,6 +57,8 @@ SAMPLE = sheet(
         # Stopped rows: 14, as more is given than was hit, and 6, as there is no third chart.
         query(0, NEAREST, n300=21, acc=0.9),
         query(2, FAST, acc=0.9),
+        # The play that was left after 800 objects once more, with the 207 hold notes that it reached.
+        query(1, NEAREST, n50=4, misses=12, acc=0.9753, passed=800, holds=207),
     ],
 )
 

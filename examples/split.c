@@ -25,9 +25,9 @@ static int split(const char *name, uint8_t method, double acc)
     uint32_t n[8];
     double reached;
 
-    /* The five counts, misses and passed are missing, so their numbers mean nothing. */
+    /* The five counts, misses, passed and the holds passed are missing, so their numbers mean nothing. */
     uint32_t refused = nuqsillay_generate(n_objects, n_hold_notes, method, NUQSILLAY_BEST_CASE, classic, NUQSILLAY_HAS_ACC,
-                                          0, 0, 0, 0, 0, 0, 0, acc, n, 8);
+                                          0, 0, 0, 0, 0, 0, 0, false, 0, acc, n, 8);
     if (refused == 0)
         refused = nuqsillay_accuracy(n[0], n[1], n[2], n[3], n[4], n[5], classic, &reached);
     if (refused != 0) {

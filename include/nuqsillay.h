@@ -24,7 +24,8 @@ enum nuqsillay_status {
     NUQSILLAY_NO_CHART = 6,       /* a row's chart index is not below the number of charts */
     NUQSILLAY_CHART_OVER = 7,     /* a chart has over 100,000 objects or hold notes */
     NUQSILLAY_UNKNOWN_CODE = 8,   /* method, priority or a row's classic is none of the known ones */
-    NUQSILLAY_FIELD_LEFT = 9,     /* a row's missing field, or its byte 6 or 7, is not zero */
+    NUQSILLAY_FIELD_LEFT = 9,     /* a row's missing field, or its last one where byte 6 is 0, is not zero, or its byte 6 is above
+                                     1, or its byte 7 is not zero */
     NUQSILLAY_COUNT_OVER = 10,    /* a given count, misses too, is over 1,000,000 */
     NUQSILLAY_ACC_OUTSIDE = 11,   /* acc is below 0, above 1, or NaN */
     NUQSILLAY_OVERFULL = 12,      /* Closest: acc is given, hits remain, exactly two counts are missing, and the given ones sum
@@ -65,19 +66,24 @@ uint32_t nuqsillay_accuracy(uint32_t n320, uint32_t n300, uint32_t n200, uint32_
                             bool classic, double *value);
 
 /* presence: NUQSILLAY_HAS_MISSES and NUQSILLAY_HAS_PASSED; the other bits are not looked at.
+ * holds_given false: the hold notes count in full, even for a shortened play, and holds_passed is not looked at; true: the
+ * non-classic total has the smaller of holds_passed, the hold notes that were passed, and n_hold_notes. Classic ignores it.
+ * holds_passed has no limit of its own.
  * out, of at least 4 numbers: out[0] total hits, out[1] misses, out[2] remaining hits, out[3] the rounded target.
  * Refused by 5, 7, 10, 11, in that order. */
 uint32_t nuqsillay_target(uint32_t n_objects, uint32_t n_hold_notes, bool classic, uint8_t presence, uint32_t misses,
-                          uint32_t passed, double acc, uint32_t *out, size_t out_len);
+                          uint32_t passed, bool holds_given, uint32_t holds_passed, double acc, uint32_t *out,
+                          size_t out_len);
 
-/* The direct call: the split of one play. out, of at least 8 numbers: out[0] n320, out[1] n300, out[2] n200, out[3] n100,
- * out[4] n50, out[5] misses, out[6] tried (the candidates that Nearest tried, 0 for the others), out[7] left: for Nearest the
- * rounded target minus the points of the five counts, as an int32_t (negative where the points are above the target), 0 for the
- * others.
+/* The direct call: the split of one play. holds_given and holds_passed are as in nuqsillay_target.
+ * out, of at least 8 numbers: out[0] n320, out[1] n300, out[2] n200, out[3] n100, out[4] n50, out[5] misses, out[6] tried (the
+ * candidates that Nearest tried, 0 for the others), out[7] left: for Nearest the rounded target minus the points of the five
+ * counts, as an int32_t (negative where the points are above the target), 0 for the others.
  * Refused by 5, 7, 8, 10, 11, then Closest by 12, Nearest by 13, 14, in that order. */
 uint32_t nuqsillay_generate(uint32_t n_objects, uint32_t n_hold_notes, uint8_t method, uint8_t priority, bool classic,
                             uint8_t presence, uint32_t n320, uint32_t n300, uint32_t n200, uint32_t n100, uint32_t n50,
-                            uint32_t misses, uint32_t passed, double acc, uint32_t *out, size_t out_len);
+                            uint32_t misses, uint32_t passed, bool holds_given, uint32_t holds_passed, double acc,
+                            uint32_t *out, size_t out_len);
 
 /* Works a sheet: every row's answer to out, 36 bytes each, as nine little-endian fields: status u32, then the eight of
  * nuqsillay_generate, seven u32 and left i32. A row's status is 0, or 6 to 14 with zeros after it; the next row is worked all
@@ -85,9 +91,10 @@ uint32_t nuqsillay_generate(uint32_t n_objects, uint32_t n_hold_notes, uint8_t m
  * then 4, then 5. sheet and out must not overlap.
  *
  * A sheet, little-endian: the number of charts (u32, at most 256), the charts (8 bytes: objects u32, hold notes u32), the number
- * of queries (u32, at most 1,024), the queries (44 bytes):
- *   0 chart index u16, 2 method u8, 3 priority u8, 4 classic u8 (0, 1), 5 presence u8, 6 two zero bytes,
- *   8 n320, 12 n300, 16 n200, 20 n100, 24 n50, 28 misses, 32 passed, each u32, 36 acc f64; a missing field is all zero bytes. */
+ * of queries (u32, at most 1,024), the queries (48 bytes):
+ *   0 chart index u16, 2 method u8, 3 priority u8, 4 classic u8 (0, 1), 5 presence u8, 6 holds_given u8 (0, 1), 7 a zero byte,
+ *   8 n320, 12 n300, 16 n200, 20 n100, 24 n50, 28 misses, 32 passed, each u32, 36 acc f64, 44 holds_passed u32; a missing
+ *   field is all zero bytes, and so is holds_passed where byte 6 is 0. */
 uint32_t nuqsillay_work_sheet(const uint8_t *sheet, size_t sheet_len, uint8_t *out, size_t out_len);
 
 /* The strides of Nearest's walk under two weightings, a and b, each from n320 to n50. out, of at least 320 numbers: 64 rows of

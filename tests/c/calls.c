@@ -8,7 +8,7 @@
 
 #include "nuqsillay.h"
 
-enum { RECORD = 84, VALUES = 8, PLACES = 10 };
+enum { RECORD = 92, VALUES = 8, PLACES = 10 };
 
 /* What stands in an output before a call. */
 #define BEFORE 0x5E171CEDu
@@ -21,6 +21,8 @@ struct query {
     bool classic;
     uint8_t presence;
     uint32_t n[5], misses, passed;
+    bool holds_given;
+    uint32_t holds_passed;
     double acc;
 };
 
@@ -38,12 +40,13 @@ static void check(bool right, const char *what, long number)
 static uint32_t generate(const struct query *q, uint32_t *out, size_t len)
 {
     return nuqsillay_generate(q->n_objects, q->n_hold_notes, q->method, q->priority, q->classic, q->presence, q->n[0], q->n[1],
-                              q->n[2], q->n[3], q->n[4], q->misses, q->passed, q->acc, out, len);
+                              q->n[2], q->n[3], q->n[4], q->misses, q->passed, q->holds_given, q->holds_passed, q->acc, out, len);
 }
 
 static uint32_t target(const struct query *q, uint32_t *out, size_t len)
 {
-    return nuqsillay_target(q->n_objects, q->n_hold_notes, q->classic, q->presence, q->misses, q->passed, q->acc, out, len);
+    return nuqsillay_target(q->n_objects, q->n_hold_notes, q->classic, q->presence, q->misses, q->passed, q->holds_given,
+                            q->holds_passed, q->acc, out, len);
 }
 
 /* A call that writes `places` numbers, with an output of each length: 5 where it is too short, else the status and values. */
@@ -87,20 +90,21 @@ static void check_record(const uint8_t *s, long number)
 {
     uint8_t kind = s[0];
     uint64_t acc = u64_at(s + 40);
-    uint32_t six[6], status = u32_at(s + 48), values[VALUES];
+    uint32_t six[6], status = u32_at(s + 56), values[VALUES];
     struct query q = {
         .n_objects = u32_at(s + 4), .n_hold_notes = u32_at(s + 8), .method = kind - 2, .priority = s[1],
         .classic = s[2], .presence = s[3], .misses = u32_at(s + 32), .passed = u32_at(s + 36),
+        .holds_given = u32_at(s + 48), .holds_passed = u32_at(s + 52),
     };
     memcpy(&q.acc, &acc, sizeof q.acc);
     for (int i = 0; i < 6; i++)
         six[i] = u32_at(s + 12 + 4 * i);
     memcpy(q.n, six, sizeof q.n);
     for (int i = 0; i < VALUES; i++)
-        values[i] = u32_at(s + 52 + 4 * i);
+        values[i] = u32_at(s + 60 + 4 * i);
 
     if (kind == 0) {
-        check_accuracy(six, q.classic, status, u64_at(s + 52), "record", number);
+        check_accuracy(six, q.classic, status, u64_at(s + 60), "record", number);
     } else if (kind == 1) {
         /* The list leaves out the remaining hits. */
         uint32_t four[4] = {values[0], values[1], values[0] - values[1], values[2]};
@@ -218,7 +222,8 @@ static void check_order(void)
     check_outputs(generate, &q, VALUES, 7, nothing, "order", 7);
 }
 
-/* Numbers in missing fields are not looked at; -0.0 is 0; hold notes count in full for a shortened play. */
+/* Numbers in missing fields are not looked at; -0.0 is 0; hold notes count in full for a shortened play that does not say how many
+ * were passed. */
 static void check_fields(void)
 {
     struct query q = {
@@ -230,12 +235,79 @@ static void check_fields(void)
     check_outputs(generate, &zero, VALUES, 0, (uint32_t[]){0, 0, 0, 0, 20, 0, ANY, -200u}, "acc", 0);
     check_outputs(target, &zero, 4, 0, (uint32_t[]){20, 0, 20, 0}, "acc of target", 0);
 
-    struct query holds = {.n_objects = 20, .n_hold_notes = 7, .presence = NUQSILLAY_HAS_PASSED | NUQSILLAY_HAS_MISSES, .passed = 5, .misses = 2, .acc = 1};
+    struct query holds = {
+        .n_objects = 20, .n_hold_notes = 7, .presence = NUQSILLAY_HAS_PASSED | NUQSILLAY_HAS_MISSES, .passed = 5, .misses = 2,
+        .holds_passed = 3, .acc = 1,
+    };
     check_outputs(generate, &holds, VALUES, 0, (uint32_t[]){10, 0, 0, 0, 0, 2, 0, 0}, "holds", 0);
     check_outputs(target, &holds, 4, 0, (uint32_t[]){12, 2, 10, 732}, "holds of target", 0);
     holds.classic = true;
     check_outputs(generate, &holds, VALUES, 0, (uint32_t[]){3, 0, 0, 0, 0, 2, 0, 0}, "holds", 1);
     check_outputs(target, &holds, 4, 0, (uint32_t[]){5, 2, 3, 300}, "holds of target", 1);
+}
+
+/* The holds passed, by the total hits of a chart of 20 objects and 7 holds. At an accuracy of 1 and with no count given every hit is a
+ * 320; Nearest finds that with its first candidate. Check 7 is asked of the chart's own holds. */
+static void check_holds(void)
+{
+    const struct {
+        struct query q;
+        uint32_t total;
+    } rows[] = {
+        {{.holds_passed = 3}, 27},
+        {{.holds_given = true, .holds_passed = 0}, 20},
+        {{.holds_given = true, .holds_passed = 1}, 21},
+        {{.holds_given = true, .holds_passed = 6}, 26},
+        {{.holds_given = true, .holds_passed = 7}, 27},
+        {{.holds_given = true, .holds_passed = 8}, 27},
+        {{.holds_given = true, .holds_passed = 1000001}, 27},
+        {{.holds_given = true, .holds_passed = UINT32_MAX}, 27},
+        {{.classic = true, .holds_given = true, .holds_passed = 0}, 20},
+        {{.classic = true, .holds_given = true, .holds_passed = 3}, 20},
+        {{.classic = true, .holds_given = true, .holds_passed = UINT32_MAX}, 20},
+        {{.presence = NUQSILLAY_HAS_PASSED, .passed = 5, .holds_given = true, .holds_passed = 3}, 8},
+        {{.presence = NUQSILLAY_HAS_PASSED, .passed = 5, .holds_given = true, .holds_passed = 9}, 12},
+        {{.presence = NUQSILLAY_HAS_PASSED, .passed = 0, .holds_given = true, .holds_passed = 0}, 0},
+        {{.presence = NUQSILLAY_HAS_PASSED, .passed = 5, .classic = true, .holds_given = true, .holds_passed = 3}, 5},
+    };
+    const uint32_t nothing[VALUES] = {0};
+
+    for (size_t i = 0; i < sizeof rows / sizeof *rows; i++) {
+        struct query q = rows[i].q;
+        uint32_t total = rows[i].total, w = q.classic ? 60 : 61;
+        q.n_objects = 20;
+        q.n_hold_notes = 7;
+        q.presence |= NUQSILLAY_HAS_ACC;
+        q.acc = 1;
+        check_outputs(target, &q, 4, 0, (uint32_t[]){total, 0, total, w * total}, "holds passed of target", (long)i);
+
+        struct query closest = q;
+        closest.method = NUQSILLAY_CLOSEST;
+        /* If classic, n320 and n300 weigh the same and would share the hits, so n300 is given. */
+        closest.presence |= NUQSILLAY_HAS_N300 | LAST_THREE;
+        check_outputs(generate, &closest, VALUES, 0, (uint32_t[]){total, 0, 0, 0, 0, 0, 0, 0}, "holds passed of Closest", (long)i);
+        const uint8_t others[] = {NUQSILLAY_IGNORE_ACCURACY, NUQSILLAY_FAST, NUQSILLAY_NEAREST};
+        for (size_t k = 0; k < sizeof others; k++) {
+            q.method = others[k];
+            uint32_t tried = q.method == NUQSILLAY_NEAREST;
+            check_outputs(generate, &q, VALUES, 0, (uint32_t[]){total, 0, 0, 0, 0, 0, tried, 0}, "holds passed", (long)i);
+        }
+
+        /* More misses than hits; then one hit too many is given. */
+        struct query missed = q;
+        missed.presence |= NUQSILLAY_HAS_MISSES;
+        missed.misses = total + 1;
+        check_outputs(target, &missed, 4, 0, (uint32_t[]){total, total, 0, w * total}, "misses of target", (long)i);
+        check_outputs(generate, &missed, VALUES, 0, (uint32_t[]){0, 0, 0, 0, 0, total, 1, w * total}, "misses", (long)i);
+        q.presence |= NUQSILLAY_HAS_N50;
+        q.n[4] = total + 1;
+        check_outputs(generate, &q, VALUES, 14, nothing, "holds passed, 14", (long)i);
+
+        q.n_hold_notes = 100001;
+        for (q.method = 0; q.method <= NUQSILLAY_NEAREST; q.method++)
+            check_outputs(generate, &q, VALUES, 7, nothing, "holds passed, 7", (long)i);
+        check_outputs(target, &q, 4, 7, nothing, "holds passed of target, 7", (long)i);
+    }
 }
 
 /* What Nearest leaves of the target, its points below or above it, on the largest charts too. The other methods leave 0. */
@@ -273,12 +345,13 @@ static void check_left(void)
 int main(int argc, char **argv)
 {
     if (argc != 2 || !check_list(argv[1])) {
-        fputs("calls: no list of records of 84 bytes\n", stderr);
+        fputs("calls: no list of records of 92 bytes\n", stderr);
         return 2;
     }
     check_plays();
     check_order();
     check_fields();
+    check_holds();
     check_left();
 
     printf("calls: %u checked, %u differ\n", checked, differ);

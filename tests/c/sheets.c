@@ -1,5 +1,5 @@
 /* sheets: checks what the library's sheet call answers and what it leaves in the output: document 01's example, a row for each
- * status, points left over, outputs of every length, sheets cut at every byte, and counts past their limits.
+ * status, points left over, holds passed, outputs of every length, sheets cut at every byte, and counts past their limits.
  * Prints 'sheets: N checked, D differ'; ends with 1 if any differs. */
 #include <math.h>
 #include <stdio.h>
@@ -7,17 +7,17 @@
 
 #include "nuqsillay.h"
 
-enum { COUNT = 4, CHART = 8, QUERY = 44, FIELDS = 9, ANSWER = 4 * FIELDS, MOST = 47112, ROOM = 64 };
+enum { COUNT = 4, CHART = 8, QUERY = 48, FIELDS = 9, ANSWER = 4 * FIELDS, MOST = 51208, ROOM = 64 };
 
 /* What stands in an output before a call. */
 enum { BEFORE = 0xA5 };
 
 struct query {
     uint16_t chart;
-    uint8_t method, priority, classic, presence;
-    uint16_t zero;
-    uint32_t n[5], misses;
+    uint8_t method, priority, classic, presence, holds_given, zero;
+    uint32_t n[5], misses, passed;
     double acc;
+    uint32_t holds_passed;
 };
 
 /* A sheet on its way, with room for more than the most that is accepted. */
@@ -61,12 +61,14 @@ static void put_query(struct sheet *s, const struct query *q)
     put(s, q->priority, 1);
     put(s, q->classic, 1);
     put(s, q->presence, 1);
-    put(s, q->zero, 2);
+    put(s, q->holds_given, 1);
+    put(s, q->zero, 1);
     for (int i = 0; i < 5; i++)
         put(s, q->n[i], 4);
     put(s, q->misses, 4);
-    put(s, 0, 4);
+    put(s, q->passed, 4);
     put(s, acc, 8);
+    put(s, q->holds_passed, 4);
 }
 
 /* Works the sheet's first bytes with an output of so many; refused or not, all of the memory must be as expected. */
@@ -158,7 +160,7 @@ static void check_statuses(void)
         {.priority = 2, .zero = 1},
         {.classic = 2, .zero = 1},
         {.zero = 1, .presence = NUQSILLAY_HAS_N320, .n = {1000001}},
-        {.zero = 0x100},
+        {.holds_given = 2},
         {.presence = NUQSILLAY_HAS_N320, .n = {0, 1000001}},
         {.misses = 1},
         {.acc = -0.0},
@@ -183,6 +185,72 @@ static void check_statuses(void)
         {6}, {6}, {7}, {7}, {8}, {8}, {8}, {9}, {9}, {9}, {9}, {9}, {10}, {10}, {11}, {11}, {12}, {13}, {14},
         {0, 3, 2, 0, 0, 0, 0, 0, 0}, {0, 0, 0, 0, 0, 0, 5, 0, 0},
     }, count, "statuses");
+}
+
+/* Rows over charts of 20 objects, with 7 holds and with 100,001: the holds passed with byte 6 at 1, and all that check 9 refuses of
+ * bytes 6, 7 and the last field, of classic rows too. Where nothing else is given IgnoreAccuracy makes a 320 of every hit. */
+static void check_holds(void)
+{
+    static struct sheet s;
+    const uint32_t charts[2][2] = {{20, 7}, {20, 100001}};
+    const uint8_t over = NUQSILLAY_HAS_N320;
+    const struct {
+        struct query q;
+        uint32_t answer[FIELDS];
+    } rows[] = {
+        {{0}, {0, 27}},
+        {{.holds_given = 1}, {0, 20}},
+        {{.holds_given = 1, .holds_passed = 1}, {0, 21}},
+        {{.holds_given = 1, .holds_passed = 6}, {0, 26}},
+        {{.holds_given = 1, .holds_passed = 7}, {0, 27}},
+        {{.holds_given = 1, .holds_passed = 8}, {0, 27}},
+        {{.holds_given = 1, .holds_passed = UINT32_MAX}, {0, 27}},
+        {{.classic = 1, .holds_given = 1, .holds_passed = 3}, {0, 20}},
+        {{.presence = NUQSILLAY_HAS_PASSED, .passed = 5, .holds_given = 1, .holds_passed = 3}, {0, 8}},
+        {{.presence = NUQSILLAY_HAS_MISSES, .misses = 24, .holds_given = 1, .holds_passed = 3}, {0, 0, 0, 0, 0, 0, 23}},
+        {{.method = NUQSILLAY_FAST, .presence = NUQSILLAY_HAS_ACC, .acc = 1, .holds_given = 1, .holds_passed = 3}, {0, 23}},
+        {{.method = NUQSILLAY_CLOSEST, .presence = NUQSILLAY_HAS_ACC, .acc = 1, .holds_given = 1, .holds_passed = 3}, {0, 23}},
+        /* 23 hits of 61 points, of which n50 earns 10 each. */
+        {{.method = NUQSILLAY_NEAREST, .presence = ONE_SPLIT, .acc = 1, .holds_given = 1, .holds_passed = 3},
+         {0, 0, 0, 0, 0, 23, 0, 1, 23 * 51}},
+        {{.method = NUQSILLAY_NEAREST, .presence = ONE_SPLIT, .n = {23}, .acc = 1, .holds_given = 1, .holds_passed = 3},
+         {0, 23, 0, 0, 0, 0, 0, 1, 0}},
+        {{.method = NUQSILLAY_NEAREST, .presence = ONE_SPLIT, .n = {24}, .acc = 1, .holds_given = 1, .holds_passed = 3}, {14}},
+        {{.chart = 1, .holds_given = 1, .holds_passed = 5}, {7}},
+        {{.chart = 1, .classic = 1, .holds_given = 1}, {7}},
+        {{.chart = 1, .holds_given = 2, .holds_passed = 5}, {7}},
+        {{.method = 4, .holds_given = 2}, {8}},
+        {{.classic = 2, .holds_passed = 1}, {8}},
+        {{.holds_given = 2}, {9}},
+        {{.holds_given = 2, .holds_passed = 1}, {9}},
+        {{.holds_given = 255}, {9}},
+        {{.holds_given = 255, .holds_passed = 1}, {9}},
+        {{.zero = 1}, {9}},
+        {{.zero = 0x80}, {9}},
+        {{.holds_given = 1, .zero = 1}, {9}},
+        {{.holds_given = 1, .zero = 1, .holds_passed = 1}, {9}},
+        {{.holds_passed = 1}, {9}},
+        {{.holds_passed = 1 << 8}, {9}},
+        {{.holds_passed = 1 << 16}, {9}},
+        {{.holds_passed = 1 << 24}, {9}},
+        {{.holds_passed = UINT32_MAX}, {9}},
+        {{.classic = 1, .holds_passed = 1}, {9}},
+        {{.classic = 1, .holds_given = 2}, {9}},
+        {{.classic = 1, .holds_given = 1, .zero = 1}, {9}},
+        {{.presence = over, .n = {1000001}, .holds_passed = 1}, {9}},
+        {{.presence = over, .n = {1000001}, .holds_given = 2}, {9}},
+        {{.presence = over, .n = {1000001}, .holds_given = 1, .zero = 1}, {9}},
+        {{.presence = over, .n = {1000001}, .holds_given = 1, .holds_passed = 1}, {10}},
+    };
+    enum { ROWS = sizeof rows / sizeof *rows };
+    uint32_t answers[ROWS][FIELDS];
+    put_charts(&s, 2, charts);
+    put(&s, ROWS, 4);
+    for (size_t i = 0; i < ROWS; i++) {
+        put_query(&s, &rows[i].q);
+        memcpy(answers[i], rows[i].answer, sizeof answers[i]);
+    }
+    check_sheet(&s, (const uint32_t (*)[FIELDS])answers, ROWS, "holds passed");
 }
 
 /* Each count at its limit and past it, with its records there or missing. */
@@ -224,6 +292,7 @@ int main(void)
     check_example();
     check_left();
     check_statuses();
+    check_holds();
     check_limits();
 
     printf("sheets: %u checked, %u differ\n", checked, differ);

@@ -20,7 +20,7 @@ use Rattle.inspect.specs.Inspect.{BestCase, Inspect, cappedMisses, inspectOf, g
 use Rattle.score_state.specs.Answer.{Answer, worked, refused, statusOf}
 use Rattle.inspect.specs.Checks.{Domain}
 use Rattle.inspect.specs.declared.Query.{Query}
-use Rattle.inspect.proofs.Checked.{misses-le, remain-and-misses, total-within}
+use Rattle.inspect.proofs.Checked.{misses-le, remain-and-misses, both-within, total-within}
 use Rattle.closest_laws.specs.Closest.{six}
 use Rattle.closest_laws.proofs.Fills.{perfect-heavy}
 use Rattle.closest_f64.specs.Rust.{Args, options, weighting, «match_two_missing», «solve_two_vars», «optimize_two_missing», «optimize_three_plus_missing», count, «optimize_hitresults», «match_given», «target_numerator», argsOf, closestAtF64}
@@ -83,12 +83,7 @@ module _ (p : Args) (k : Within p) where
   match-beside none none c d e = optimize-beside
 
 -- ---- the lines before the match
-shortened-within : (passed : Option ℕ) (objects holds : ℕ) → objects ≤ 100_000 → holds ≤ 100_000 → shortened passed objects + holds ≤ 200_000
-unfolding shortened
-shortened-within none objects holds h k = omega arith
-shortened-within (some n) objects holds h k = omega arith
-
-from-the-first : (i : Inspect) (acc : Float) → shortened (i .passed) (i .objects) + i .holds ≤ 200_000 → totalHits i ≤ 200_000
+from-the-first : (i : Inspect) (acc : Float) → shortened (i .passed) (i .objects) + shortened (i .holdsPassed) (i .holds) ≤ 200_000 → totalHits i ≤ 200_000
     → perfectWeight (i .classic) * totalHits i ≤ 12_200_000 → Within (argsOf i acc)
     → Beside (closestAtF64 i acc) (computed i acc) (overfull (remain i) (givens i))
 unfolding closestAtF64 computed totalHitsOf argsOf
@@ -130,7 +125,7 @@ module _ (q : Query) (acc : Float) (d : Domain q) (h : T (le zero64 acc)) (k : T
 
   beside : Beside (closestAtF64 i acc) (computed i acc) (overfull (remain i) (givens i))
   beside =
-      from-the-first i acc (shortened-within (i .passed) (i .objects) (i .holds) (d .objects) (d .holds)) (total-within q d)
+      from-the-first i acc (both-within i (d .objects) (d .holds)) (total-within q d)
       (mul-le-mul (perfect-within (i .classic)) (total-within q d)) within
 
   -- a build with overflow checks does not stop where another answer than 12 is told
@@ -207,6 +202,7 @@ smallest = record {
   objects = 1;
   holds = 0;
   passed = none;
+  holdsPassed = none;
   classic = true;
   priority = BestCase;
   n320 = some 2;

@@ -213,9 +213,9 @@ matchGiven p none (some n300) (some n200) none n50 = optimizeHitresults p
 matchGiven p none (some n300) none n100 n50 = optimizeHitresults p
 matchGiven p none none n200 n100 n50 = optimizeHitresults p
 
--- line 36 of inspect.rs, `total_hits`; `misses` (line 19) asks for it again
+-- line 36 of inspect.rs, `total_hits`, on a chart that has the hold notes reached (document 02, L2); `misses` (line 19) asks for it again
 unfoldable pub totalHitsOf : Inspect → List Step
-totalHitsOf i = cond (i .classic) [] (u32 36 (pos (shortened (i .passed) (i .objects) + i .holds)) ∷ [])
+totalHitsOf i = cond (i .classic) [] (u32 36 (pos (shortened (i .passed) (i .objects) + shortened (i .holdsPassed) (i .holds))) ∷ [])
 
 -- all of a call where acc is given
 unfoldable pub computed : Inspect → Float → List Step

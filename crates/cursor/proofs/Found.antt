@@ -32,13 +32,13 @@ module _ (s : List ℕ) (at : ℕ) where
   unfolding readAt
   chart h = rw (le-leb (at + 8) (length s) h)
 
-  pub row : at + 44 ≤ length s → readAt s at 44 ≡ Row (rowAt s at)
+  pub row : at + 48 ≤ length s → readAt s at 48 ≡ Row (rowAt s at)
   unfolding readAt
-  row h = rw (le-leb (at + 44) (length s) h)
+  row h = rw (le-leb (at + 48) (length s) h)
 
-  pub other : (size : ℕ) → at + size ≤ length s → (size ≡ 4 → ⊥) → (size ≡ 8 → ⊥) → (size ≡ 44 → ⊥) → readAt s at size ≡ End
+  pub other : (size : ℕ) → at + size ≤ length s → (size ≡ 4 → ⊥) → (size ≡ 8 → ⊥) → (size ≡ 48 → ⊥) → readAt s at size ≡ End
   unfolding readAt
-  other size h n4 n8 n44 = rw (le-leb (at + size) (length s) h, ne-eqb size 4 n4, ne-eqb size 8 n8, ne-eqb size 44 n44)
+  other size h n4 n8 n48 = rw (le-leb (at + size) (length s) h, ne-eqb size 4 n4, ne-eqb size 8 n8, ne-eqb size 48 n48)
 
 -- ---- for the arms of a match on a read
 -- the value that an arm knows

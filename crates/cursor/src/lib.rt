@@ -22,7 +22,7 @@ pub enum Read {
     End,
 }
 
-// The record of this size, 4, 8 or 44 bytes, at a place of a slice.
+// The record of this size, 4, 8 or 48 bytes, at a place of a slice.
 pub fn read_at(s: &[u8], at: usize, size: usize) -> Read
     ensures { λ r. ⌜ r ≡ readAt (now (s .entry)) at size ⌝ }
 {
@@ -38,7 +38,7 @@ pub fn read_at(s: &[u8], at: usize, size: usize) -> Read
     if size == 8 {
         return Read::Chart(records::read_chart(s, at));
     }
-    if size == 44 {
+    if size == 48 {
         return Read::Row(records::read_row(s, at));
     }
     Read::End
@@ -96,10 +96,10 @@ pub fn chart_from(s: &[u8], at: usize) -> Chart
 
 // The query at a place of the sheet.
 pub fn row_from(s: &[u8], at: usize) -> Row
-    requires { ⌜ at + 44 ≤ length (now s) ⌝ }
+    requires { ⌜ at + 48 ≤ length (now s) ⌝ }
     ensures { λ r. ⌜ r ≡ rowAt (now (s .entry)) at ⌝ }
 {
-    match read_from(s, at, 44) {
+    match read_from(s, at, 48) {
         Read::Row(row) => row,
         Read::Word(_) | Read::Chart(_) | Read::End => records::no_row(),
     }

@@ -1,7 +1,7 @@
 -- Document 01, Where a row or sheet stops: "A direct call, which takes method and priority as numbers, refuses by 7, 8, 10 to 14 with
--- no counts." An output without room for the values is refused by 5, before anything else, and left unchanged.
+-- no counts." Document 02, L2, of the holds passed: "a direct call takes it as one more optional number". An output without room for the values is refused by 5, before anything else, and left unchanged.
 use Prim.Native.Nat.{ℕ, _<_}
-use mathlib.Core.Bool.{Bool, true, false}
+use mathlib.Core.Bool.{Bool, true, false, cond}
 use mathlib.Core.List.{List, _++_}
 use lib.Dec.{ltb, eqb}
 use lib.ListN.{length, drop}
@@ -11,6 +11,8 @@ use Rattle.score_state.specs.Answer.{Answer, worked, unless, statusOf, valuesOf
 use Rattle.inspect.specs.Presence.{has}
 use Rattle.inspect.specs.declared.Accuracy.{Accuracy}
 use Rattle.inspect.specs.declared.Accuracy.the-variants.{Given, Absent}
+use Rattle.inspect.specs.declared.Holds.{Holds}
+use Rattle.inspect.specs.declared.Holds.the-variants.{InFull, Passed}
 use Rattle.inspect.specs.declared.Query.{Query}
 use Rattle.generate.specs.declared.Generated.{Generated}
 use Rattle.generate.specs.declared.Generated.the-variants.{Counts, Refused}
@@ -48,9 +50,13 @@ abbrev pub accBy : Bool → Float → Accuracy
 accBy true acc = Given acc
 accBy false acc = Absent
 
+-- the holds passed, if they are given: a number other than 0 says so
+abbrev pub holdsBy : ℕ → ℕ → Holds
+holdsBy given n = cond (eqb given 0) InFull (Passed n)
+
 -- the query of these numbers
-abbrev pub queryBy : ℕ → ℕ → ℕ → ℕ → Bool → ℕ → HitResults → ℕ → Float → Query
-queryBy objects holds method priority classic presence counts passed acc =
+abbrev pub queryBy : ℕ → ℕ → ℕ → ℕ → Bool → ℕ → HitResults → ℕ → ℕ → ℕ → Float → Query
+queryBy objects holds method priority classic presence counts passed holdsGiven holdsPassed acc =
     record {
       chart = record { «n_objects» = objects; «n_hold_notes» = holds };
       method = method;
@@ -64,5 +70,6 @@ queryBy objects holds method priority classic presence counts passed acc =
       n50 = counts .n50;
       misses = counts .misses;
       passed = passed;
+      holds = holdsBy holdsGiven holdsPassed;
       acc = accBy (has presence 64) acc;
     }

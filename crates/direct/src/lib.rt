@@ -5,10 +5,11 @@ ghost use lib.ListN.{length, take};
 ghost use Rattle.inspect.specs.Presence.{has};
 ghost use Rattle.generate_laws.specs.Generate.{generateAnswer};
 ghost use Rattle.generate.specs.Generated.{generatedOf};
-ghost use Rattle.direct.specs.Direct.{Numbered, sixCounts, lent, handed, answerIn, accBy, queryBy};
+ghost use Rattle.direct.specs.Direct.{Numbered, sixCounts, lent, handed, answerIn, accBy, holdsBy, queryBy};
 use generate::Generated;
 use inspect::Accuracy;
 use inspect::Chart;
+use inspect::Holds;
 use inspect::Query;
 
 // The accuracy where its bit of presence is set.
@@ -19,6 +20,18 @@ fn acc_of(presence: u8, acc: f64) -> Accuracy
         Accuracy::Given(acc)
     } else {
         Accuracy::Absent
+    }
+}
+
+// The holds passed where they are given: 0 says that they are not, as in a row and in C's bool. A bool here would be masked anew on
+// the stack, and C's call could not hand its arguments on as they stand.
+pub fn holds_of(given: u8, n: u32) -> Holds
+    ensures { λ r. ⌜ r ≡ holdsBy given n ⌝ }
+{
+    if given == 0 {
+        Holds::InFull
+    } else {
+        Holds::Passed(n)
     }
 }
 
@@ -59,16 +72,19 @@ pub fn generate(
     n50: u32,
     misses: u32,
     passed: u32,
+    holds_given: u8,
+    holds_passed: u32,
     acc: f64,
     out: &mut [u32],
 ) -> u32
-    ensures { λ r. ⌜ lent r (now (out .exit)) ≡ handed 8 (generateAnswer (queryBy objects holds method priority classic presence (sixCounts n320 n300 n200 n100 n50 misses) passed acc)) (now (out .entry)) ⌝ }
-    ensures { λ r. ⌜ (8 ≤ length (now (out .entry)) → answerIn r (take 8 (now (out .exit))) ≡ generateAnswer (queryBy objects holds method priority classic presence (sixCounts n320 n300 n200 n100 n50 misses) passed acc)) ⌝ }
+    ensures { λ r. ⌜ lent r (now (out .exit)) ≡ handed 8 (generateAnswer (queryBy objects holds method priority classic presence (sixCounts n320 n300 n200 n100 n50 misses) passed «holds_given» «holds_passed» acc)) (now (out .entry)) ⌝ }
+    ensures { λ r. ⌜ (8 ≤ length (now (out .entry)) → answerIn r (take 8 (now (out .exit))) ≡ generateAnswer (queryBy objects holds method priority classic presence (sixCounts n320 n300 n200 n100 n50 misses) passed «holds_given» «holds_passed» acc)) ⌝ }
 {
     if out.len() < 8 {
         return 5;
     }
     let accuracy = acc_of(presence, acc);
+    let reached = holds_of(holds_given, holds_passed);
     let q = Query {
         chart: Chart {
             n_objects: objects,
@@ -85,6 +101,7 @@ pub fn generate(
         n50,
         misses,
         passed,
+        holds: reached,
         acc: accuracy,
     };
     hand(generate::generate(q), out)

@@ -21,6 +21,7 @@ withAccuracy o i =
       objects = i .objects;
       holds = i .holds;
       passed = i .passed;
+      holdsPassed = i .holdsPassed;
       classic = i .classic;
       priority = i .priority;
       n320 = i .n320;

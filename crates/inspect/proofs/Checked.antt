@@ -3,10 +3,10 @@
 use mathlib.Core.Path.{_≡_, refl, sym, ap, _∙_, subst}
 use mathlib.Core.Bool.{Bool, true, false, not, cond, _&&_, _||_, true≢false}
 use mathlib.Core.Option.{Option, none, some}
-use Prim.Native.Nat.{ℕ, _+_, _-_, _*_, _≤_, _<_, min}
+use Prim.Native.Nat.{ℕ, _+_, _*_, _≤_, _<_, min}
 use native.Mathlib.Nat.{mul-le-mul, le-refl, le-trans}
 use native.Mathlib.Omega.{arith}
-use borrow.Author.Tests.{ltb-false, eq-eqb, ne-eqb}
+use borrow.Author.Tests.{ltb-false, le-ltb, eq-eqb, ne-eqb}
 use lib.Dec.{T, ltb}
 use lib.Ieee.{Float, le}
 use Rattle.rounding.specs.Round.{zero64, one64}
@@ -16,13 +16,15 @@ use Rattle.score_state.proofs.Caps.{or-left, or-right}
 use Rattle.inspect.specs.Presence.{given}
 use mathlib.Core.List.{[], _∷_}
 use Rattle.score_state.specs.Points.{perfectWeight}
-use Rattle.inspect.specs.Inspect.{Inspect, inspectOf, accOf, shortened, totalHits, cappedMisses, misses, remain}
+use Rattle.inspect.specs.Inspect.{Inspect, inspectOf, accOf, holdsOf, shortened, totalHits, cappedMisses, misses, remain}
 use Rattle.inspect.specs.Target.{target}
 use Rattle.score_state.specs.Answer.{refused, worked, unless}
 use Rattle.inspect.specs.Answers.{targetValues, targetAnswer}
+use Rattle.inspect.proofs.Total.{total-classic, total-holds}
 use Rattle.inspect.specs.declared.Accuracy.{Accuracy}
 use Rattle.inspect.specs.declared.Accuracy.the-variants.{Given, Absent}
 use Rattle.inspect.specs.Checks.{chartOver, chartLimit, unknownCode, overCap, countOver, accOutside, stopOf, InRange, Domain}
+use Rattle.inspect.specs.declared.Chart.{Chart}
 use Rattle.inspect.specs.declared.Query.{Query}
 
 -- ---- `stopOf` is 0 exactly where no check holds
@@ -110,18 +112,33 @@ pub remain-and-misses : (i : Inspect) → remain i + misses i ≡ totalHits i
 unfolding remain
 remain-and-misses i = omega (arith, misses-le i)
 
--- at most 100,000 objects and 100,000 hold notes
-pub total-within : (q : Query) → Domain q → totalHits (inspectOf q) ≤ 200_000
-unfolding totalHits
-total-within q d = le-trans (either (q .classic) (shortened ((inspectOf q) .passed) (q .chart .«n_objects»)) (q .chart .«n_hold_notes»)) (omega (arith, fewer ((inspectOf q) .passed) (q .chart .«n_objects»), d .objects, d .holds))
-  where
-    fewer : (p : Option ℕ) (n : ℕ) → shortened p n ≤ n
-    fewer none n = unfold shortened in le-refl n
-    fewer (some p) n = unfold shortened in omega arith
+-- what is passed is at most all there is
+pub shortened-le : (passed : Option ℕ) (all : ℕ) → shortened passed all ≤ all
+unfolding shortened
+shortened-le none all = le-refl all
+shortened-le (some n) all = omega arith
 
-    either : (b : Bool) (m h : ℕ) → cond b m (m + h) ≤ m + h
-    either true m h = omega arith
-    either false m h = le-refl (m + h)
+-- a chart within the limits is so with fewer hold notes
+pub chart-within : (c : Chart) (n : ℕ) → n ≤ c .«n_hold_notes» → chartOver c ≡ false → chartOver (record { «n_objects» = c .«n_objects»; «n_hold_notes» = n }) ≡ false
+unfolding chartOver
+chart-within c n h e =
+    let objects = ltb chartLimit (c .«n_objects») in
+    let holds = ltb chartLimit (c .«n_hold_notes») in
+    rw (or-left objects holds e, le-ltb chartLimit n (le-trans h (ltb-false chartLimit (c .«n_hold_notes») (or-right objects holds e))))
+
+-- at most 100,000 objects and 100,000 hold notes, however many of either are passed
+pub both-within : (i : Inspect) → i .objects ≤ chartLimit → i .holds ≤ chartLimit → shortened (i .passed) (i .objects) + shortened (i .holdsPassed) (i .holds) ≤ 200_000
+both-within i h k = omega (arith, shortened-le (i .passed) (i .objects), shortened-le (i .holdsPassed) (i .holds))
+
+pub total-within : (q : Query) → Domain q → totalHits (inspectOf q) ≤ 200_000
+total-within q d = go (q .classic) refl
+  where
+    most : shortened ((inspectOf q) .passed) (q .chart .«n_objects») + shortened (holdsOf (q .holds)) (q .chart .«n_hold_notes») ≤ 200_000
+    most = both-within (inspectOf q) (d .objects) (d .holds)
+
+    go : (b : Bool) → q .classic ≡ b → totalHits (inspectOf q) ≤ 200_000
+    go true c = omega (arith, total-classic q c, most)
+    go false c = omega (arith, total-holds q c, most)
 
 pub whole-within : (w n : ℕ) → w ≤ 100 → n ≤ 200_000 → w * n ≤ 20_000_000
 whole-within w n h k = mul-le-mul h k

@@ -1,3 +1,4 @@
+pub mod Total
 pub mod Checked
 pub mod Arms
 pub mod Lacking

@@ -1,6 +1,8 @@
 -- inspect.rs, `InspectManiaPerformance` (lines 13 to 47), and document 01, inspect.rs: "objects = min(passed, n_objects), passed
 -- missing = no cap. `total_hits` = objects if classic, else objects + n_hold_notes (the hold notes in full, even for a shortened
--- play). misses = min(given, total), missing = 0. remain = total − misses."
+-- play). misses = min(given, total), missing = 0. remain = total − misses." Document 02, L2, of the holds passed: "Non-classic total is
+-- objects plus the smaller of that and n_hold_notes; classic ignores it. That u32 has no limit of its own; a direct call takes it as
+-- one more optional number."
 use Prim.Native.Nat.{ℕ, zero, suc, _+_, _-_, min}
 use mathlib.Core.Bool.{Bool, cond}
 use mathlib.Core.List.{List, [], _∷_}
@@ -9,17 +11,20 @@ use lib.Ieee.{Float}
 use Rattle.inspect.specs.Presence.{has, given}
 use Rattle.inspect.specs.declared.Accuracy.{Accuracy}
 use Rattle.inspect.specs.declared.Accuracy.the-variants.{Given, Absent}
+use Rattle.inspect.specs.declared.Holds.{Holds}
+use Rattle.inspect.specs.declared.Holds.the-variants.{InFull, Passed}
 use Rattle.inspect.specs.declared.Query.{Query}
 
 pub data HitResultPriority : Type 0 where
   BestCase : HitResultPriority
   WorstCase : HitResultPriority
 
--- a query as the Rust's generators see it
+-- a query as the Rust's generators see it, and the holds passed
 pub record Inspect : Type 0 where
   pub objects : ℕ
   pub holds : ℕ
   pub passed : Option ℕ
+  pub holdsPassed : Option ℕ
   pub classic : Bool
   pub priority : HitResultPriority
   pub n320 : Option ℕ
@@ -39,12 +44,18 @@ abbrev pub accOf : Accuracy → Option Float
 accOf (Given x) = some x
 accOf Absent = none
 
+-- how many holds were passed, if the query says it
+abbrev pub holdsOf : Holds → Option ℕ
+holdsOf InFull = none
+holdsOf (Passed n) = some n
+
 abbrev pub inspectOf : Query → Inspect
 inspectOf q =
     record {
       objects = q .chart .«n_objects»;
       holds = q .chart .«n_hold_notes»;
       passed = given (has (q .presence) 128) (q .passed);
+      holdsPassed = holdsOf (q .holds);
       classic = q .classic;
       priority = priorityOf (q .priority);
       n320 = given (has (q .presence) 1) (q .n320);
@@ -60,13 +71,15 @@ inspectOf q =
 abbrev pub givens : Inspect → List (Option ℕ)
 givens i = i .n320 ∷ i .n300 ∷ i .n200 ∷ i .n100 ∷ i .n50 ∷ []
 
--- min(passed, n_objects)
+-- min(passed, n_objects), and "the smaller of that and n_hold_notes": all of them where the number is missing
 unfoldable pub shortened : Option ℕ → ℕ → ℕ
-shortened none objects = objects
-shortened (some passed) objects = min passed objects
+shortened none all = all
+shortened (some passed) all = min passed all
 
 unfoldable pub totalHits : Inspect → ℕ
-totalHits i = let objects = shortened (i .passed) (i .objects) in cond (i .classic) objects (objects + i .holds)
+totalHits i =
+    let objects = shortened (i .passed) (i .objects) in
+    cond (i .classic) objects (objects + shortened (i .holdsPassed) (i .holds))
 
 -- `map_or(0, |n| cmp::min(n, total_hits))`
 unfoldable pub cappedMisses : Option ℕ → ℕ → ℕ

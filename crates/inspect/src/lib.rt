@@ -9,7 +9,7 @@ ghost use Rattle.units.specs.Limits.{mostHits, mostWeight};
 ghost use Rattle.inspect.specs.Presence as Presence;
 ghost use Rattle.inspect.specs.Presence.{has, lacking, missingOf, unwrapOrZero};
 ghost use Rattle.inspect.specs.Inspect as Inspect;
-ghost use Rattle.inspect.specs.Inspect.{inspectOf, accOf};
+ghost use Rattle.inspect.specs.Inspect.{inspectOf, accOf, holdsOf};
 ghost use Rattle.inspect.specs.Target as Target;
 ghost use Rattle.inspect.specs.Checks.{chartOver, unknownCode, overCap, countOver, accOutside, stopOf, Domain};
 ghost use Rattle.inspect.specs.Answers.{answerOf, targetAnswer};
@@ -29,6 +29,12 @@ pub enum Accuracy {
     Absent,
 }
 
+// The hold notes that a player reached: all of the chart, or so many were passed in a play that was broken off.
+pub enum Holds {
+    InFull,
+    Passed(u32),
+}
+
 // A query. presence has document 01's bits, from n320 (1) to passed (128); acc's own bit is not looked at, `Accuracy` says it.
 pub struct Query {
     pub chart: Chart,
@@ -43,6 +49,7 @@ pub struct Query {
     pub n50: u32,
     pub misses: u32,
     pub passed: u32,
+    pub holds: Holds,
     pub acc: Accuracy,
 }
 
@@ -137,17 +144,29 @@ fn shortened(given: bool, passed: Hits, objects: Hits) -> Hits
     }
 }
 
-// The hold notes count in full, even for a shortened play.
+// The smaller of the holds passed and n_hold_notes, and no cap where the holds count in full.
+fn reached(holds: Holds, all: Hits) -> Hits
+    ensures { λ r. ⌜ (r .0 ≡ Inspect.shortened (holdsOf holds) (all .0)) × (r .0 ≤ all .0) ⌝ }
+{
+    match holds {
+        Holds::Passed(n) => Hits(n).least(all),
+        Holds::InFull => all,
+    }
+}
+
+// passed shortens the objects alone; the hold notes have their own number.
 pub fn total_hits(q: Query) -> Hits
     requires { ⌜ Domain q ⌝ }
     ensures { λ r. ⌜ (r .0 ≡ Inspect.totalHits (inspectOf q)) × (r .0 ≤ mostHits) ⌝ }
 {
     let passed = is_given(q.presence, PASSED);
     let objects = shortened(passed, Hits(q.passed), Hits(q.chart.n_objects));
+    let holds = q.holds;
+    let hold_notes = reached(holds, Hits(q.chart.n_hold_notes));
     if q.classic {
         objects
     } else {
-        objects.plus(Hits(q.chart.n_hold_notes))
+        objects.plus(hold_notes)
     }
 }
 

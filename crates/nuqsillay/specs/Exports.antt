@@ -9,16 +9,17 @@ use Rattle.score_state.specs.Answer.{Answer, worked, refused, statusOf}
 use Rattle.inspect.specs.declared.Accuracy.the-variants.{Given}
 use Rattle.inspect.specs.declared.Query.{Query}
 use Rattle.sheets_laws.specs.Sheets.{sheetOf}
-use Rattle.direct.specs.Direct.{Lent, lent}
+use Rattle.direct.specs.Direct.{Lent, lent, holdsBy}
 
 -- what stands behind a lent f64 at the end, and stood there before
 abbrev pub valueOr : Answer Float → Float → Float
 valueOr (worked x) old = x
 valueOr (refused n) old = old
 
--- the query of `nuqsillay_target`: no count is given but misses and passed, by their own bits of presence
-abbrev pub targetQuery : ℕ → ℕ → Bool → ℕ → ℕ → ℕ → Float → Query
-targetQuery objects holds classic presence misses passed acc =
+-- the query of `nuqsillay_target`: no count is given but misses and passed, by their own bits of presence, and the
+-- holds passed
+abbrev pub targetQuery : ℕ → ℕ → Bool → ℕ → ℕ → ℕ → ℕ → ℕ → Float → Query
+targetQuery objects holds classic presence misses passed holdsGiven holdsPassed acc =
     record {
       chart = record { «n_objects» = objects; «n_hold_notes» = holds };
       method = 0;
@@ -32,6 +33,7 @@ targetQuery objects holds classic presence misses passed acc =
       n50 = 0;
       misses = misses;
       passed = passed;
+      holds = holdsBy holdsGiven holdsPassed;
       acc = Given acc;
     }
 

@@ -49,7 +49,7 @@ pub extern "C" fn nuqsillay_accuracy(
     }
 }
 
-// The query of `nuqsillay_target`: no count is given but misses and passed.
+// The query of `nuqsillay_target`: no count is given but misses, passed and the holds passed.
 fn target_query(
     objects: u32,
     holds: u32,
@@ -57,9 +57,11 @@ fn target_query(
     presence: u8,
     misses: u32,
     passed: u32,
+    holds_given: u8,
+    holds_passed: u32,
     acc: f64,
 ) -> Query
-    ensures { λ r. ⌜ r ≡ targetQuery objects holds classic presence misses passed acc ⌝ }
+    ensures { λ r. ⌜ r ≡ targetQuery objects holds classic presence misses passed «holds_given» «holds_passed» acc ⌝ }
 {
     Query {
         chart: Chart {
@@ -77,6 +79,7 @@ fn target_query(
         n50: 0,
         misses,
         passed,
+        holds: direct::holds_of(holds_given, holds_passed),
         acc: Accuracy::Given(acc),
     }
 }
@@ -90,15 +93,27 @@ pub extern "C" fn nuqsillay_target(
     presence: u8,
     misses: u32,
     passed: u32,
+    holds_given: u8,
+    holds_passed: u32,
     acc: f64,
     out: &mut [u32],
 ) -> u32
-    ensures { λ r. ⌜ lent r (now (out .exit)) ≡ handed 4 (targetAnswer (targetQuery objects holds classic presence misses passed acc)) (now (out .entry)) ⌝ }
+    ensures { λ r. ⌜ lent r (now (out .exit)) ≡ handed 4 (targetAnswer (targetQuery objects holds classic presence misses passed «holds_given» «holds_passed» acc)) (now (out .entry)) ⌝ }
 {
     if out.len() < 4 {
         return 5;
     }
-    let q = target_query(objects, holds, classic, presence, misses, passed, acc);
+    let q = target_query(
+        objects,
+        holds,
+        classic,
+        presence,
+        misses,
+        passed,
+        holds_given,
+        holds_passed,
+        acc,
+    );
     match inspect::rounded_target(q) {
         TargetAnswer::Is(t) => {
             out[0] = t.total_hits.0;
@@ -127,10 +142,12 @@ pub extern "C" fn nuqsillay_generate(
     n50: u32,
     misses: u32,
     passed: u32,
+    holds_given: u8,
+    holds_passed: u32,
     acc: f64,
     out: &mut [u32],
 ) -> u32
-    ensures { λ r. ⌜ lent r (now (out .exit)) ≡ handed 8 (generateAnswer (queryBy objects holds method priority classic presence (sixCounts n320 n300 n200 n100 n50 misses) passed acc)) (now (out .entry)) ⌝ }
+    ensures { λ r. ⌜ lent r (now (out .exit)) ≡ handed 8 (generateAnswer (queryBy objects holds method priority classic presence (sixCounts n320 n300 n200 n100 n50 misses) passed «holds_given» «holds_passed» acc)) (now (out .entry)) ⌝ }
 {
     direct::generate(
         objects,
@@ -146,6 +163,8 @@ pub extern "C" fn nuqsillay_generate(
         n50,
         misses,
         passed,
+        holds_given,
+        holds_passed,
         acc,
         out,
     )

@@ -1,7 +1,7 @@
--- Document 01, Records, Sheet: "Charts (at most 256, 8 bytes: objects, holds), then queries (at most 1,024, 44 bytes): 0: chart
--- index u16. 2: method u8. 3: priority u8. 4: classic u8. 5: presence u8. 6: two zero bytes. 8, 12, 16, 20, 24, 28: the five
--- counts and misses. 32: passed. 36: acc, f64 bits." Document 02, L4: "five u32 weights from n320 to n50"; L6: "ten weights as 40 bytes
--- of u32".
+-- Document 01, Records, Sheet: "Charts (at most 256, 8 bytes: objects, holds), then queries (..): 0: chart index u16. 2: method u8. 3:
+-- priority u8. 4: classic u8. 5: presence u8. .. 8, 12, 16, 20, 24, 28: the five counts and misses. 32: passed. 36: acc, f64 bits."
+-- Document 02, L2: "Queries become 48 bytes: byte 6 may be 1, and then a u32 at 44 says how many holds were passed", and byte 7 as
+-- before; L4: "five u32 weights from n320 to n50"; L6: "ten weights as 40 bytes of u32".
 use mathlib.Core.List.{List, []}
 use Prim.Native.Nat.{ℕ, _+_}
 use Rattle.little_endian.specs.Bytes.{byte, u16At, u32At, u64At}
@@ -23,7 +23,8 @@ rowAt s at =
       priority = byte s (at + 3);
       classic = byte s (at + 4);
       presence = byte s (at + 5);
-      zeros = u16At s (at + 6);
+      «holds_given» = byte s (at + 6);
+      zero = byte s (at + 7);
       n320 = u32At s (at + 8);
       n300 = u32At s (at + 12);
       n200 = u32At s (at + 16);
@@ -32,6 +33,7 @@ rowAt s at =
       misses = u32At s (at + 28);
       passed = u32At s (at + 32);
       acc = u64At s (at + 36);
+      «holds_passed» = u32At s (at + 44);
     }
 
 -- its counts and misses alone

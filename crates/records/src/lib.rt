@@ -1,4 +1,4 @@
-// Records as numbers: a sheet's chart of 8 bytes and its query's row of 44, and five weights of 20.
+// Records as numbers: a sheet's chart of 8 bytes and its query's row of 48, and five weights of 20.
 ghost use mathlib.Core.Path.{_≡_};
 ghost use Prim.Native.Nat.{_+_, _≤_};
 ghost use lib.ListN.{length};
@@ -7,14 +7,15 @@ use inspect::Chart;
 use score_state::HitResults;
 use score_state::Weights;
 
-// A query as it stands in the sheet: zeros is the two bytes at 6 as one number, acc the bits of its f64.
+// A query as it stands in the sheet: holds_given is byte 6, zero byte 7, acc the bits of its f64, holds_passed the last field.
 pub struct Row {
     pub chart: u32,
     pub method: u8,
     pub priority: u8,
     pub classic: u8,
     pub presence: u8,
-    pub zeros: u32,
+    pub holds_given: u8,
+    pub zero: u8,
     pub n320: u32,
     pub n300: u32,
     pub n200: u32,
@@ -23,6 +24,7 @@ pub struct Row {
     pub misses: u32,
     pub passed: u32,
     pub acc: u64,
+    pub holds_passed: u32,
 }
 
 pub fn read_chart(s: &[u8], at: usize) -> Chart
@@ -39,7 +41,7 @@ pub fn read_chart(s: &[u8], at: usize) -> Chart
 
 // The five counts and misses of the query at a place.
 fn read_counts(s: &[u8], at: usize) -> HitResults
-    requires { ⌜ at + 44 ≤ length (now s) ⌝ }
+    requires { ⌜ at + 48 ≤ length (now s) ⌝ }
     ensures { λ r. ⌜ r ≡ countsAt (now (s .entry)) at ⌝ }
 {
     let n320 = little_endian::u32_at(s, at + 8);
@@ -59,21 +61,22 @@ fn read_counts(s: &[u8], at: usize) -> HitResults
 }
 
 pub fn read_row(s: &[u8], at: usize) -> Row
-    requires { ⌜ at + 44 ≤ length (now s) ⌝ }
+    requires { ⌜ at + 48 ≤ length (now s) ⌝ }
     ensures { λ r. ⌜ r ≡ rowAt (now (s .entry)) at ⌝ }
 {
     let chart = little_endian::u16_at(s, at);
-    let zeros = little_endian::u16_at(s, at + 6);
     let counts = read_counts(s, at);
     let passed = little_endian::u32_at(s, at + 32);
     let acc = little_endian::u64_at(s, at + 36);
+    let holds_passed = little_endian::u32_at(s, at + 44);
     Row {
         chart,
         method: s[at + 2],
         priority: s[at + 3],
         classic: s[at + 4],
         presence: s[at + 5],
-        zeros,
+        holds_given: s[at + 6],
+        zero: s[at + 7],
         n320: counts.n320,
         n300: counts.n300,
         n200: counts.n200,
@@ -82,6 +85,7 @@ pub fn read_row(s: &[u8], at: usize) -> Row
         misses: counts.misses,
         passed,
         acc,
+        holds_passed,
     }
 }
 
@@ -95,7 +99,8 @@ pub fn no_row() -> Row
         priority: 0,
         classic: 0,
         presence: 0,
-        zeros: 0,
+        holds_given: 0,
+        zero: 0,
         n320: 0,
         n300: 0,
         n200: 0,
@@ -104,6 +109,7 @@ pub fn no_row() -> Row
         misses: 0,
         passed: 0,
         acc: 0,
+        holds_passed: 0,
     }
 }
 

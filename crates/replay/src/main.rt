@@ -1,12 +1,14 @@
 // Replays a fixed list of the Rust's answers (Nearest's are a plain walk's), which `tests/beside/run list` wrote, and prints how many
 // differ.
-// A record has 84 bytes: kind, priority, classic, presence; then u32s: objects, holds, n320, n300, n200, n100, n50, misses, passed;
-// at 40 the accuracy's f64; and from 48 on the expected status and values, left by its bits.
+// A record has 92 bytes: kind, priority, classic, presence; then u32s: objects, holds, n320, n300, n200, n100, n50, misses, passed;
+// at 40 the accuracy's f64; then u32s again: 1 where the holds passed are given, and their number; and from 56 on the expected status
+// and values, left by its bits.
 ghost use Prim.Native.Nat.{_+_, _*_, _≤_, _<_};
 ghost use lib.ListN.{length};
 use generate::Generated;
 use inspect::Accuracy;
 use inspect::Chart;
+use inspect::Holds;
 use inspect::Query;
 use inspect::TargetAnswer;
 use libc::STDIN_FILENO;
@@ -19,7 +21,7 @@ use score_state::HitResults;
 
 // The six counts of a record.
 fn counts_at(s: &[u8], at: usize) -> HitResults
-    requires { ⌜ at + 84 ≤ length (now s) ⌝ }
+    requires { ⌜ at + 92 ≤ length (now s) ⌝ }
 {
     HitResults {
         n320: u32_at(s, at + 12),
@@ -33,7 +35,7 @@ fn counts_at(s: &[u8], at: usize) -> HitResults
 
 // The query of a record; where the acc bit of presence is 0, the accuracy is absent.
 fn query_at(s: &[u8], at: usize, method: u8) -> Query
-    requires { ⌜ at + 84 ≤ length (now s) ⌝ }
+    requires { ⌜ at + 92 ≤ length (now s) ⌝ }
 {
     let presence = s[at + 3];
     let x = f64_of(u64_at(s, at + 40));
@@ -42,6 +44,13 @@ fn query_at(s: &[u8], at: usize, method: u8) -> Query
         Accuracy::Given(x)
     } else {
         Accuracy::Absent
+    };
+    let holds_passed = u32_at(s, at + 52);
+    let holds_given = u32_at(s, at + 48) == 1;
+    let holds = if holds_given {
+        Holds::Passed(holds_passed)
+    } else {
+        Holds::InFull
     };
     let counts = counts_at(s, at);
     let chart = Chart {
@@ -61,33 +70,34 @@ fn query_at(s: &[u8], at: usize, method: u8) -> Query
         n50: counts.n50,
         misses: counts.misses,
         passed: u32_at(s, at + 36),
+        holds,
         acc,
     }
 }
 
 // Whether the expected value k of a record is n.
 fn expects(s: &[u8], at: usize, k: usize, n: u32) -> bool
-    requires { ⌜ at + 84 ≤ length (now s) ⌝ }
+    requires { ⌜ at + 92 ≤ length (now s) ⌝ }
     requires { ⌜ k < 9 ⌝ }
 {
-    u32_at(s, at + 48 + 4 * k) == n
+    u32_at(s, at + 56 + 4 * k) == n
 }
 
 // Kind 0: the six counts are the input, and the value is an f64.
 fn accuracy_agrees(s: &[u8], at: usize) -> bool
-    requires { ⌜ at + 84 ≤ length (now s) ⌝ }
+    requires { ⌜ at + 92 ≤ length (now s) ⌝ }
 {
     let counts = counts_at(s, at);
     let classic = s[at + 2] == 1;
     match score_state::accuracy(counts, classic) {
-        AccuracyAnswer::Is(x) => expects(s, at, 0, 0) && x == f64_of(u64_at(s, at + 52)),
+        AccuracyAnswer::Is(x) => expects(s, at, 0, 0) && x == f64_of(u64_at(s, at + 60)),
         AccuracyAnswer::OverCap => expects(s, at, 0, 10),
     }
 }
 
 // Kind 1: total hits, misses and the rounded target.
 fn target_agrees(s: &[u8], at: usize) -> bool
-    requires { ⌜ at + 84 ≤ length (now s) ⌝ }
+    requires { ⌜ at + 92 ≤ length (now s) ⌝ }
 {
     match inspect::rounded_target(query_at(s, at, 0)) {
         TargetAnswer::Is(t) => {
@@ -102,7 +112,7 @@ fn target_agrees(s: &[u8], at: usize) -> bool
 
 // Whether the expected values are these counts, this tried and this left.
 fn counts_agree(s: &[u8], at: usize, counts: HitResults, tried: u32, left: i32) -> bool
-    requires { ⌜ at + 84 ≤ length (now s) ⌝ }
+    requires { ⌜ at + 92 ≤ length (now s) ⌝ }
 {
     expects(s, at, 1, counts.n320)
         && expects(s, at, 2, counts.n300)
@@ -116,7 +126,7 @@ fn counts_agree(s: &[u8], at: usize, counts: HitResults, tried: u32, left: i32) 
 
 // Kinds 2 to 5: the direct call, methods 0 to 3.
 fn generate_agrees(s: &[u8], at: usize, method: u8) -> bool
-    requires { ⌜ at + 84 ≤ length (now s) ⌝ }
+    requires { ⌜ at + 92 ≤ length (now s) ⌝ }
 {
     match generate::generate(query_at(s, at, method)) {
         Generated::Counts(counts, tried, left) => {
@@ -128,7 +138,7 @@ fn generate_agrees(s: &[u8], at: usize, method: u8) -> bool
 
 // Whether our answer to a record is the expected one; an unknown kind is a difference.
 fn agrees(s: &[u8], at: usize) -> bool
-    requires { ⌜ at + 84 ≤ length (now s) ⌝ }
+    requires { ⌜ at + 92 ≤ length (now s) ⌝ }
 {
     let kind = s[at];
     match kind {
@@ -152,8 +162,8 @@ fn tally_of(s: &[u8], kind: u8) -> Tally {
     let mut run: u32 = 0;
     let mut differ: u32 = 0;
     let mut i: usize = 0;
-    while i < s.len() / 84 {
-        let at = 84 * i;
+    while i < s.len() / 92 {
+        let at = 92 * i;
         if s[at] == kind {
             run = std::num::wrapping_add_u32(run, 1);
             if !agrees(s, at) {

@@ -1,7 +1,8 @@
 -- Document 01, Where a row or sheet stops: row 6 "chart index not below chart count", chart 7 "objects or holds over 100,000", row
--- 8 "unknown method, priority or classic", row 9 "a missing field, or byte 6 or 7, holds a nonzero byte", in this order; and
--- Records: "5: presence u8, bits 0 to 7 for n320, n300, n200, n100, n50, misses, acc, passed", "The accuracy is either given with
--- its f64 or absent".
+-- 8 "unknown method, priority or classic", row 9 "a missing field .. holds a nonzero byte", in this order; and Records: "5: presence u8,
+-- bits 0 to 7 for n320, n300, n200, n100, n50, misses, acc, passed", "The accuracy is either given with its f64 or absent". Document 02,
+-- L2: "byte 6 may be 1, and then a u32 at 44 says how many holds were passed", "With byte 6 at 0 the last field must be zero", "A nonzero
+-- last field there, a byte 6 above 1 or a nonzero byte 7 is 9."
 use mathlib.Core.List.{List}
 use mathlib.Core.Bool.{Bool, not, cond, _&&_, _||_}
 use Prim.Native.Nat.{ℕ}
@@ -14,13 +15,17 @@ use Rattle.score_state.specs.Answer.{Answer, unless}
 use Rattle.inspect.specs.declared.Chart.{Chart}
 use Rattle.inspect.specs.declared.Query.{Query}
 use Rattle.generate_laws.specs.Generate.{generateAnswer}
-use Rattle.direct.specs.Direct.{accBy}
+use Rattle.direct.specs.Direct.{accBy, holdsBy}
 use Rattle.records.specs.declared.Row.{Row}
 use Rattle.charts.specs.Charts.{noChart}
 
 -- a missing field, by the place value of its presence bit, that is not all zero bytes
 unfoldable pub leftOver : ℕ → ℕ → Bool → Bool
 leftOver presence place nonzero = not (has presence place) && nonzero
+
+-- "A nonzero last field there [with byte 6 at 0], a byte 6 above 1"
+unfoldable pub holdsLeft : ℕ → Bool → Bool
+holdsLeft given nonzero = (eqb given 0 && nonzero) || ltb 1 given
 
 -- check 9: by the bits of acc, so that a missing acc of -0.0 is found too
 unfoldable pub fieldsLeft : Row → Bool
@@ -33,7 +38,8 @@ fieldsLeft row =
     || leftOver (row .presence) 32 (ltb 0 (row .misses))
     || leftOver (row .presence) 64 (ltb 0 (row .acc))
     || leftOver (row .presence) 128 (ltb 0 (row .passed))
-    || ltb 0 (row .zeros)
+    || holdsLeft (row .«holds_given») (ltb 0 (row .«holds_passed»))
+    || ltb 0 (row .zero)
 
 -- check 8: methods 0 to 3, priorities 0 and 1, classic 0 and 1
 unfoldable pub unknownRow : Row → Bool
@@ -59,6 +65,7 @@ queryOf row chart =
       n50 = row .n50;
       misses = row .misses;
       passed = row .passed;
+      holds = holdsBy (row .«holds_given») (row .«holds_passed»);
       acc = accBy (has (row .presence) 64) (ofBits binary64 (row .acc));
     }
 

@@ -4,7 +4,7 @@ ghost use Prim.Native.Nat.{_<_, _≤_};
 ghost use lib.ListN.{length, take};
 ghost use Rattle.generate.specs.Generated.{generatedOf};
 ghost use Rattle.direct.specs.Direct.{answerIn};
-ghost use Rattle.rows.specs.Rows.{leftOver, fieldsLeft, unknownRow, rowStop, foundAnswer, rowAnswer};
+ghost use Rattle.rows.specs.Rows.{leftOver, holdsLeft, fieldsLeft, unknownRow, rowStop, foundAnswer, rowAnswer};
 use generate::Generated;
 use inspect::Chart;
 use records::Row;
@@ -22,6 +22,13 @@ fn left_over(presence: u8, place: u8, nonzero: bool) -> bool
     }
 }
 
+// A byte 6 that is neither 0 nor 1, or holds passed that are not all zero bytes where it is 0.
+fn holds_left(given: u8, nonzero: bool) -> bool
+    ensures { λ r. ⌜ r ≡ holdsLeft given nonzero ⌝ }
+{
+    if given == 0 { nonzero } else { given > 1 }
+}
+
 // Check 9.
 fn fields_left(row: Row) -> bool
     ensures { λ r. ⌜ r ≡ fieldsLeft row ⌝ }
@@ -35,7 +42,8 @@ fn fields_left(row: Row) -> bool
     let misses = left_over(p, inspect::MISSES, row.misses > 0);
     let acc = left_over(p, inspect::ACC, row.acc > 0);
     let passed = left_over(p, inspect::PASSED, row.passed > 0);
-    n320 | n300 | n200 | n100 | n50 | misses | acc | passed | (row.zeros > 0)
+    let holds = holds_left(row.holds_given, row.holds_passed > 0);
+    n320 | n300 | n200 | n100 | n50 | misses | acc | passed | holds | (row.zero > 0)
 }
 
 // Check 8.
@@ -110,6 +118,8 @@ fn found_answer(row: Row, chart: Chart) -> Generated
         row.n50,
         row.misses,
         row.passed,
+        row.holds_given,
+        row.holds_passed,
         acc,
         &mut numbers,
     );

@@ -37,7 +37,7 @@ fn sheet_stop(sheet: &[u8], room: usize) -> u32
     if queries > 1024 {
         return 3;
     }
-    let end = at + 4 + 44 * queries;
+    let end = at + 4 + 48 * queries;
     if len < end {
         return 1;
     }
@@ -60,13 +60,13 @@ fn work_rows(
     out: &mut [u8],
 )
     requires { ⌜ (count ≤ 256) × (count ≤ length charts) ⌝ }
-    requires { ⌜ base + 44 * n ≤ length (now sheet) ⌝ }
+    requires { ⌜ base + 48 * n ≤ length (now sheet) ⌝ }
     requires { ⌜ 36 * n ≤ length (now out) ⌝ }
     ensures { λ _. ⌜ now (out .exit) ≡ rowsWritten (now (sheet .entry)) (take count charts) base n (now (out .entry)) ⌝ }
 {
     let mut i: usize = 0;
     while i < n {
-        let row = cursor::row_from(sheet, base + 44 * i);
+        let row = cursor::row_from(sheet, base + 48 * i);
         let answer = rows::row_answer(row, charts, count);
         answers::put_answer(out, 36 * i, answer);
         i += 1;

@@ -62,7 +62,7 @@ laid s bytes n a e h ea =
     let k = accepted s bytes (sym e ∙ z) in
     rw ea (k .charts, omega (arith, k .ends))
 
-pub laid-out : (s : List ℕ) (bytes n a b : ℕ) → n ≡ sheetStop s bytes → n ≤ 0 → a ≡ u32At s 0 → b ≡ u32At s (4 + 8 * a) → (4 + 8 * a + 4 + 44 * b ≤ length s) × (36 * b ≤ bytes)
+pub laid-out : (s : List ℕ) (bytes n a b : ℕ) → n ≡ sheetStop s bytes → n ≤ 0 → a ≡ u32At s 0 → b ≡ u32At s (4 + 8 * a) → (4 + 8 * a + 4 + 48 * b ≤ length s) × (36 * b ≤ bytes)
 laid-out s bytes n a b e h ea eb =
     let z : n ≡ 0 = omega arith in
     let k = accepted s bytes (sym e ∙ z) in

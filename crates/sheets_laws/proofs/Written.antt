@@ -29,7 +29,7 @@ module _ (s : List ℕ) (charts : List Chart) (base : ℕ) (out : List ℕ) wher
 
   -- the same from the facts of the calls: the row that is read, its answer, and the output with the answer put
   pub written-step
-      : (i : ℕ) (row : Row) (a : Answer (List ℕ)) (o o′ : List ℕ) → o ≡ rowsWritten s charts base i out → row ≡ rowAt s (base + 44 * i) → a ≡ rowAnswer row charts
+      : (i : ℕ) (row : Row) (a : Answer (List ℕ)) (o o′ : List ℕ) → o ≡ rowsWritten s charts base i out → row ≡ rowAt s (base + 48 * i) → a ≡ rowAnswer row charts
       → o′ ≡ put o (36 * i) (answerBytes a) → o′ ≡ rowsWritten s charts base (i + 1) out
   unfolding rowOf
   written-step i row a o o′ eo er ea p = p ∙ rw (eo, ea, er) (written-next i)

@@ -24,7 +24,8 @@ withAcc a r =
       priority = r .priority;
       classic = r .classic;
       presence = r .presence;
-      zeros = r .zeros;
+      «holds_given» = r .«holds_given»;
+      zero = r .zero;
       n320 = r .n320;
       n300 = r .n300;
       n200 = r .n200;
@@ -33,6 +34,7 @@ withAcc a r =
       misses = r .misses;
       passed = r .passed;
       acc = a;
+      «holds_passed» = r .«holds_passed»;
     }
 
 -- an answer's six counts

@@ -16,6 +16,7 @@ fn main() {
     stored(b"full.sheet");
     stored(b"full_one_follows.sheet");
     stored(b"full_two_follow.sheet");
+    stored(b"holds_passed.sheet");
     // A folder, which opens and cannot be read.
     stored(b".");
 }

@@ -1,5 +1,5 @@
--- Document 01, Program `sheet`: it "reads standard input (47,113 bytes at most ..)"; document 02, L6: "reads the ten weights .. from
--- standard input". What can be said of a read.
+-- Document 01, Program `sheet`: it "reads standard input (.. bytes at most ..)"; document 02, L2: "the program reads 51,209", L6: "reads the
+-- ten weights .. from standard input". What can be said of a read.
 use mathlib.Core.List.{List}
 use Prim.Native.Nat.{ℕ}
 use Rattle.io.specs.Counts.{Counts}

@@ -8,7 +8,7 @@ use std::{
 };
 
 use crate::{
-    inputs::{self, Rng},
+    inputs::{self, Holds, Rng},
     nearest, ours,
     query::{ACC, CAP, CHART, Method, Query},
     repo,
@@ -91,7 +91,7 @@ fn mixed(rng: &mut Rng, method: Method, n: usize, hits: u32) -> Vec<Query> {
 
     while batch.len() < n {
         let turn = rng.next();
-        let q = inputs::query(rng, method, turn, hits);
+        let q = inputs::query(rng, method, turn, hits, Holds::InFull);
 
         if q.has(ACC) && q.status() == 0 {
             batch.push(q);
@@ -299,7 +299,7 @@ impl Full {
         Self::new(&charts, |chart| {
             loop {
                 let turn = rng.next();
-                let q = inputs::query_over(rng, chart, method, turn);
+                let q = inputs::query_over(rng, chart, method, turn, Holds::InFull);
 
                 if q.has(ACC) && q.status() == 0 {
                     return q;

@@ -3,7 +3,7 @@
 //! 100 ms.
 
 use crate::{
-    inputs::{self, Rng, Size},
+    inputs::{self, Holds, Rng, Size},
     query::{CHART, Method, Query},
     repo,
     tally::Tally,
@@ -42,7 +42,7 @@ fn large(rng: &mut Rng) -> Query {
     loop {
         let most = rng.pick(&[2_000, 2_000, 10_000, CHART, CHART + 1]);
         let turn = rng.next();
-        let q = inputs::query(rng, Method::Closest, turn, most);
+        let q = inputs::query(rng, Method::Closest, turn, most, Holds::OneInFour);
 
         if q.status() != 0 {
             continue;
@@ -77,7 +77,7 @@ pub fn run(rng: &mut Rng) -> bool {
 
     for turn in 0..size.random {
         let hits = hits(rng);
-        compare(&inputs::query(rng, method, turn, hits));
+        compare(&inputs::query(rng, method, turn, hits, Holds::OneInFour));
     }
 
     for _ in 0..LARGE / u64::from(size.one_in) {

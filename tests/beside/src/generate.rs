@@ -3,7 +3,7 @@
 
 use crate::{
     closest,
-    inputs::{self, Rng, Size},
+    inputs::{self, Holds, Rng, Size},
     nearest, plain, plays,
     query::{Answer, Method, Query},
     repo,
@@ -32,7 +32,7 @@ pub fn hits(rng: &mut Rng, method: Method) -> u32 {
 fn query(rng: &mut Rng, turn: u64) -> Query {
     let method = Method::ALL[turn as usize % 4];
     let hits = hits(rng, method);
-    let mut q = inputs::query(rng, method, turn / 4, hits);
+    let mut q = inputs::query(rng, method, turn / 4, hits, Holds::OneInFour);
 
     if rng.one_in(4) {
         inputs::spoil(rng, &mut q);

@@ -156,10 +156,34 @@ pub fn chart(rng: &mut Rng, hits: u32) -> (u32, u32) {
     }
 }
 
+/// Which of the random queries give the holds passed.
+#[derive(Clone, Copy)]
+pub enum Holds {
+    /// None of them. Nothing is drawn for it, so that stored inputs stay as they are.
+    InFull,
+    OneInFour,
+    Passed,
+}
+
+impl Holds {
+    fn passed(self, rng: &mut Rng, n_hold_notes: u32) -> Option<u32> {
+        let given = match self {
+            Self::InFull => false,
+            Self::OneInFour => rng.one_in(4),
+            Self::Passed => true,
+        };
+
+        given.then(|| {
+            let around = around(rng, n_hold_notes);
+            rng.pick(&[around, around, n_hold_notes / 2, u32::MAX])
+        })
+    }
+}
+
 /// A query over a chart that `chart` makes. One in 16 queries is spoilt.
-pub fn query(rng: &mut Rng, method: Method, turn: u64, hits: u32) -> Query {
+pub fn query(rng: &mut Rng, method: Method, turn: u64, hits: u32, holds: Holds) -> Query {
     let chart = chart(rng, hits);
-    let mut q = query_over(rng, chart, method, turn);
+    let mut q = query_over(rng, chart, method, turn, holds);
 
     if rng.one_in(16) {
         spoil(rng, &mut q);
@@ -170,7 +194,13 @@ pub fn query(rng: &mut Rng, method: Method, turn: u64, hits: u32) -> Query {
 
 /// A query over this chart. The five presence bits, priority and classic go through all their
 /// values as `turn` grows.
-pub fn query_over(rng: &mut Rng, chart: (u32, u32), method: Method, turn: u64) -> Query {
+pub fn query_over(
+    rng: &mut Rng,
+    chart: (u32, u32),
+    method: Method,
+    turn: u64,
+    holds: Holds,
+) -> Query {
     let (n_objects, n_hold_notes) = chart;
 
     let mut q = Query {
@@ -184,6 +214,7 @@ pub fn query_over(rng: &mut Rng, chart: (u32, u32), method: Method, turn: u64) -
         misses: rng.next() as u32,
         passed: rng.next() as u32,
         acc: f64::from_bits(rng.next()),
+        holds_passed: holds.passed(rng, n_hold_notes),
     };
 
     // Three in four have an accuracy; the others go to IgnoreAccuracy or are refused.
@@ -204,11 +235,7 @@ pub fn query_over(rng: &mut Rng, chart: (u32, u32), method: Method, turn: u64) -
         };
     }
 
-    if rng.one_in(3) {
-        crowd_counts(rng, &mut q);
-    } else {
-        share_counts(rng, &mut q);
-    }
+    give_counts(rng, &mut q);
 
     if q.has(ACC) {
         q.acc = acc(rng, q.full_points());
@@ -219,6 +246,15 @@ pub fn query_over(rng: &mut Rng, chart: (u32, u32), method: Method, turn: u64) -
     }
 
     q
+}
+
+/// Gives the given counts their numbers, by shares of remain or, one in three, crowding it.
+pub fn give_counts(rng: &mut Rng, q: &mut Query) {
+    if rng.one_in(3) {
+        crowd_counts(rng, q);
+    } else {
+        share_counts(rng, q);
+    }
 }
 
 /// Gives each given count a share of what is left of remain. One sum in about 20 is one over it.
@@ -296,8 +332,8 @@ pub fn spoil(rng: &mut Rng, q: &mut Query) {
 /// counts from 0 to the hits and two more, and the cap; every rounded target where it can matter.
 /// Thinned where it cannot (fewer than two missing, no hits left) and where two are missing and
 /// overfull, which is 12 or 14: there one target each, which moves from query to query. One in 8
-/// has its like without accuracy. Objects, hold notes, passed and priority change from query to
-/// query too, and a missing field holds a number that means nothing.
+/// has its like without accuracy. Objects, hold notes, passed, holds passed and priority change from
+/// query to query too, and a missing field holds a number that means nothing.
 pub fn exhaustive(method: Method, most: u32, visit: &mut dyn FnMut(&Query)) {
     let mut turn = 0_u32;
 
@@ -320,14 +356,17 @@ pub fn exhaustive(method: Method, most: u32, visit: &mut dyn FnMut(&Query)) {
 
 /// A query of so many hits and misses, still without counts and accuracy.
 fn small(hits: u32, classic: bool, misses: u32, turn: u32) -> Query {
-    let n_hold_notes = turn % (hits + 1);
-    let objects = if classic { hits } else { hits - n_hold_notes };
-
-    let (n_objects, passed) = match turn / 7 % 4 {
-        0 => (objects, Some(u32::MAX)),
-        1 => (objects + 1 + turn % 3, Some(objects)),
-        _ => (objects, None),
+    let holds = turn % (hits + 1);
+    let objects = if classic { hits } else { hits - holds };
+    // So many of a chart's notes, with the number passed where it is given.
+    let cut = |notes: u32, kind: u32| match kind % 4 {
+        0 => (notes, Some(u32::MAX)),
+        1 => (notes + 1 + turn % 3, Some(notes)),
+        _ => (notes, None),
     };
+
+    let (n_objects, passed) = cut(objects, turn / 7);
+    let (n_hold_notes, holds_passed) = cut(holds, turn / 11);
 
     let given_misses = match misses {
         0 => (turn / 5).is_multiple_of(2).then_some(0),
@@ -348,6 +387,7 @@ fn small(hits: u32, classic: bool, misses: u32, turn: u32) -> Query {
         counts: [turn; 5],
         misses: given_misses.unwrap_or(turn),
         passed: passed.unwrap_or(turn),
+        holds_passed,
         ..Query::default()
     }
 }

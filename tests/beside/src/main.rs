@@ -23,6 +23,8 @@ mod accuracy;
 mod bench;
 mod closest;
 mod generate;
+mod holds;
+mod holds_sheets;
 mod inputs;
 mod list;
 mod nearest;
@@ -47,7 +49,7 @@ include!(concat!(env!("OUT_DIR"), "/tree.rs"));
 /// The parts in their order, each with what runs it and says whether nothing differed.
 type Part = (&'static str, fn(&mut Rng) -> bool);
 
-const PARTS: [Part; 12] = [
+const PARTS: [Part; 13] = [
     ("accuracy", accuracy::run),
     ("target", target::run),
     ("ignore_acc", |rng| plain::run(Method::IgnoreAcc, rng)),
@@ -57,6 +59,7 @@ const PARTS: [Part; 12] = [
     ("stride_table", stride_table::run),
     ("nearest", nearest::run),
     ("generate", generate::run),
+    ("holds", holds::run),
     ("sheets", sheets::run),
     ("rising", rising::run),
     ("bench", |rng| {

@@ -5,7 +5,7 @@
 
 use crate::{
     closest::SMALL,
-    inputs::{self, Rng, Size},
+    inputs::{self, Holds, Rng, Size},
     ours, plays,
     query::{Answer, CHART, Method, Query},
     tally::Tally,
@@ -244,7 +244,7 @@ pub fn run(rng: &mut Rng) -> bool {
 
     for turn in 0..size.random {
         let hits = hits(rng);
-        part.compare(&inputs::query(rng, method, turn, hits));
+        part.compare(&inputs::query(rng, method, turn, hits, Holds::OneInFour));
     }
 
     part.0.finish()

@@ -21,6 +21,8 @@ unsafe extern "C" {
         presence: u8,
         misses: u32,
         passed: u32,
+        holds_given: bool,
+        holds_passed: u32,
         acc: f64,
         out: *mut u32,
         out_len: usize,
@@ -40,6 +42,8 @@ unsafe extern "C" {
         n50: u32,
         misses: u32,
         passed: u32,
+        holds_given: bool,
+        holds_passed: u32,
         acc: f64,
         out: *mut u32,
         out_len: usize,
@@ -76,6 +80,11 @@ pub fn accuracy(counts: &[u32; 6], classic: bool, value: &mut f64) -> u32 {
     unsafe { nuqsillay_accuracy(n320, n300, n200, n100, n50, misses, classic, value) }
 }
 
+/// The number of the holds passed; where they are not given, one that would shorten the play.
+fn holds_passed(q: &Query) -> u32 {
+    q.holds_passed.unwrap_or(q.n_hold_notes / 2)
+}
+
 pub fn target(q: &Query, out: &mut [u32]) -> u32 {
     // SAFETY: the call writes only inside the slice whose length it is told.
     unsafe {
@@ -86,6 +95,8 @@ pub fn target(q: &Query, out: &mut [u32]) -> u32 {
             q.presence,
             q.misses,
             q.passed,
+            q.holds_passed.is_some(),
+            holds_passed(q),
             q.acc,
             out.as_mut_ptr(),
             out.len(),
@@ -112,6 +123,8 @@ pub fn generate(q: &Query, out: &mut [u32]) -> u32 {
             n50,
             q.misses,
             q.passed,
+            q.holds_passed.is_some(),
+            holds_passed(q),
             q.acc,
             out.as_mut_ptr(),
             out.len(),

@@ -1,7 +1,7 @@
 //! Parts ignore_acc and fast, which take the same inputs.
 
 use crate::{
-    inputs::{self, Rng, Size},
+    inputs::{self, Holds, Rng, Size},
     query::{CHART, Method},
     repo,
     tally::Tally,
@@ -23,7 +23,7 @@ pub fn run(method: Method, rng: &mut Rng) -> bool {
 
     for turn in 0..Size::new(2_000_000).random {
         let hits = hits(rng);
-        let q = inputs::query(rng, method, turn, hits);
+        let q = inputs::query(rng, method, turn, hits, Holds::OneInFour);
         tally.generate(&q, repo::answer(&q));
     }
 

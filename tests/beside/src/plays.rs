@@ -1,7 +1,9 @@
 //! The plays of document 01 that name a method's answer, A to I, with document 02's left; J and K are
-//! among the limits of every part. Then other plays, of which Nearest leaves points.
+//! among the limits of every part. The same plays broken off, so that only some of their holds count.
+//! Then other plays, whose answers are told by hand: those of which Nearest leaves points, and those
+//! with holds passed.
 
-use crate::query::{ACC, Answer, CHART, MISSES, Method, NAMES, Query};
+use crate::query::{ACC, Answer, CAP, CHART, MISSES, Method, NAMES, PASSED, Query};
 
 pub struct Play {
     pub label: char,
@@ -125,6 +127,28 @@ pub fn of(method: Method) -> Vec<Play> {
     }
 }
 
+/// The same plays of charts that have more holds than were passed: a third of the hits are holds, so
+/// that total hits and answer are as before. In a classic play the holds do not count.
+pub fn broken_off(method: Method) -> Vec<Play> {
+    let broken = |play: Play| {
+        let q = play.query;
+        let holds = q.n_objects / 3;
+        let objects = q.n_objects - if q.classic { 0 } else { holds };
+
+        Play {
+            query: Query {
+                n_objects: objects,
+                n_hold_notes: holds + 5,
+                holds_passed: Some(holds),
+                ..q
+            },
+            ..play
+        }
+    };
+
+    of(method).into_iter().map(broken).collect()
+}
+
 /// Plays by Nearest and what they leave, told by hand: targets below, between and above all splits,
 /// and the largest charts.
 pub fn left_over() -> Vec<(Query, i64)> {
@@ -189,4 +213,172 @@ pub fn left_over() -> Vec<(Query, i64)> {
 
     told.map(|(q, target, left)| (aimed(q, target).by(Method::Nearest), left))
         .to_vec()
+}
+
+/// Ten objects and four holds at an accuracy of 1, with these counts given, and the holds passed.
+fn reached(given: &[(&str, u32)], holds: u32) -> Query {
+    Query {
+        n_hold_notes: 4,
+        holds_passed: Some(holds),
+        ..chart(10, given)
+    }
+}
+
+fn shortened(q: Query, passed: u32) -> Query {
+    Query {
+        presence: q.presence | PASSED,
+        passed,
+        ..q
+    }
+}
+
+/// Plays with holds passed and their answers, told by hand from document 02: total hits are the ten
+/// objects, or the fewer that passed tells, plus the smaller of four and the holds passed; if classic,
+/// the objects alone.
+pub fn with_holds() -> Vec<(Query, Answer)> {
+    let bare = |holds| reached(&[], holds);
+    let in_full = |q| Query {
+        holds_passed: None,
+        ..q
+    };
+    let classic = |q| Query { classic: true, ..q };
+    let worst = |q| Query { priority: 1, ..q };
+    let of_holds = |n_hold_notes, q| Query { n_hold_notes, ..q };
+    let zeros = NAMES.map(|name| (name, 0));
+    let eleven = [&[("n320", 11)][..], &zeros[1..]].concat();
+    let twelve = [("n320", 6), ("n300", 6), ("n200", 0)];
+
+    let counts = |counts: [u32; 5], misses, tried, left| Answer {
+        status: 0,
+        values: [
+            counts[0], counts[1], counts[2], counts[3], counts[4], misses, tried, left,
+        ],
+    };
+    let best = |n| counts([n, 0, 0, 0, 0], 0, 0, 0);
+    let refused = Answer::refused;
+
+    // By IgnoreAccuracy, where nothing is given every hit is a 320, or a 50 in the worst case.
+    let ignore_acc = [
+        (bare(0), best(10)),
+        (bare(1), best(11)),
+        (bare(3), best(13)),
+        (bare(4), best(14)),
+        (bare(5), best(14)),
+        (bare(CAP + 1), best(14)),
+        (bare(1 << 31), best(14)),
+        (bare(u32::MAX), best(14)),
+        (in_full(bare(1)), best(14)),
+        (classic(bare(0)), best(10)),
+        (classic(bare(1)), best(10)),
+        (classic(bare(u32::MAX)), best(10)),
+        (worst(bare(1)), counts([0, 0, 0, 0, 11], 0, 0, 0)),
+        (shortened(bare(2), 6), best(8)),
+        (shortened(bare(9), 6), best(10)),
+        (shortened(bare(2), u32::MAX), best(12)),
+        (shortened(bare(0), 0), best(0)),
+        (shortened(bare(3), 0), best(3)),
+        (classic(shortened(bare(3), 6)), best(6)),
+        // Misses are capped by the new total.
+        (missed(bare(1), 3), counts([8, 0, 0, 0, 0], 3, 0, 0)),
+        (missed(bare(1), 12), counts([0; 5], 11, 0, 0)),
+        (missed(shortened(bare(2), 6), 9), counts([0; 5], 8, 0, 0)),
+        (
+            missed(in_full(bare(1)), 12),
+            counts([2, 0, 0, 0, 0], 12, 0, 0),
+        ),
+        // Check 7 is asked of the chart's own holds.
+        (of_holds(CHART, bare(5)), best(15)),
+        (of_holds(CHART, bare(0)), best(10)),
+        (of_holds(CHART, bare(u32::MAX)), best(10 + CHART)),
+        (of_holds(CHART + 1, bare(5)), refused(7)),
+        (of_holds(CHART + 1, bare(0)), refused(7)),
+        (classic(of_holds(CHART + 1, bare(5))), refused(7)),
+    ];
+
+    // At an accuracy of 1 all are 320s.
+    let fast = [
+        (bare(0), best(10)),
+        (bare(1), best(11)),
+        (bare(u32::MAX), best(14)),
+        (classic(bare(1)), best(10)),
+        (missed(bare(1), 12), counts([0; 5], 11, 0, 0)),
+        (of_holds(CHART + 1, bare(5)), refused(7)),
+    ];
+
+    // With two missing, twelve given hits are too many for eleven, and just right for twelve.
+    let closest = [
+        (reached(&zeros[2..], 1), best(11)),
+        (reached(&zeros[2..], 9), best(14)),
+        (reached(&twelve, 1), refused(12)),
+        (reached(&twelve, 2), counts([6, 6, 0, 0, 0], 0, 0, 0)),
+        (classic(reached(&twelve, 2)), refused(12)),
+        (missed(bare(1), 12), counts([0; 5], 11, 0, 0)),
+        (of_holds(CHART + 1, bare(5)), refused(7)),
+    ];
+
+    // Of n hits, all missing, the first candidate has D = 61 n - 10 n and lo = 51 n div 51 = n, at the
+    // target. Four given zeros leave one split, of 10 n points where 61 n are wanted, or 60 n if
+    // classic. Five given counts are a split only where their sum remains.
+    let nearest = [
+        (bare(0), counts([10, 0, 0, 0, 0], 0, 1, 0)),
+        (bare(1), counts([11, 0, 0, 0, 0], 0, 1, 0)),
+        (bare(4), counts([14, 0, 0, 0, 0], 0, 1, 0)),
+        (bare(u32::MAX), counts([14, 0, 0, 0, 0], 0, 1, 0)),
+        (reached(&zeros[..4], 0), counts([0, 0, 0, 0, 10], 0, 1, 510)),
+        (reached(&zeros[..4], 1), counts([0, 0, 0, 0, 11], 0, 1, 561)),
+        (reached(&zeros[..4], 5), counts([0, 0, 0, 0, 14], 0, 1, 714)),
+        (
+            classic(reached(&zeros[..4], 1)),
+            counts([0, 0, 0, 0, 10], 0, 1, 500),
+        ),
+        (reached(&eleven, 0), refused(14)),
+        (reached(&eleven, 1), counts([11, 0, 0, 0, 0], 0, 0, 0)),
+        (reached(&eleven, 2), refused(14)),
+        (in_full(reached(&eleven, 1)), refused(14)),
+        (classic(reached(&eleven, 1)), refused(14)),
+        (reached(&[("n300", 12)], 1), refused(14)),
+        // No hits are left of the target of 671.
+        (missed(bare(1), 12), counts([0; 5], 11, 1, 671)),
+        (of_holds(CHART + 1, bare(5)), refused(7)),
+    ];
+
+    let by = |method: Method, (q, answer): (Query, Answer)| (q.by(method), answer);
+
+    ignore_acc
+        .map(|play| by(Method::IgnoreAcc, play))
+        .into_iter()
+        .chain(fast.map(|play| by(Method::Fast, play)))
+        .chain(closest.map(|play| by(Method::Closest, play)))
+        .chain(nearest.map(|play| by(Method::Nearest, play)))
+        .collect()
+}
+
+/// Plays with holds passed and their total hits, misses, remaining hits and rounded target, told by
+/// hand as above: 61 points a hit, 60 if classic, and a half to the even number.
+pub fn targets_with_holds() -> Vec<(Query, [u32; 4])> {
+    let half = |holds| Query {
+        acc: 0.5,
+        ..reached(&[], holds)
+    };
+    let whole = |holds| reached(&[], holds);
+    let classic = Query {
+        classic: true,
+        ..whole(1)
+    };
+
+    vec![
+        (whole(0), [10, 0, 10, 610]),
+        (whole(1), [11, 0, 11, 671]),
+        (whole(3), [13, 0, 13, 793]),
+        (whole(4), [14, 0, 14, 854]),
+        (whole(5), [14, 0, 14, 854]),
+        (whole(u32::MAX), [14, 0, 14, 854]),
+        (classic, [10, 0, 10, 600]),
+        // 335.5, 366 and 396.5.
+        (half(1), [11, 0, 11, 336]),
+        (half(2), [12, 0, 12, 366]),
+        (half(3), [13, 0, 13, 396]),
+        (missed(whole(1), 3), [11, 3, 8, 671]),
+        (missed(shortened(whole(2), 6), 9), [8, 8, 0, 488]),
+    ]
 }

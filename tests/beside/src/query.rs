@@ -1,4 +1,4 @@
-//! A query, and what document 01 says of it before a method works.
+//! A query, and what documents 01 and 02 say of it before a method works.
 
 use std::fmt;
 
@@ -54,6 +54,8 @@ pub struct Query {
     pub misses: u32,
     pub passed: u32,
     pub acc: f64,
+    /// How many hold notes were passed, where that is given.
+    pub holds_passed: Option<u32>,
 }
 
 /// A status and, where it is 0, the five counts, misses, tried and the bits of left.
@@ -123,13 +125,19 @@ impl Query {
         [if self.classic { 60 } else { 61 }, 60, 40, 20, 10]
     }
 
+    /// The hold notes that the player reached: the smaller of the passed ones and the chart's, or the
+    /// chart's in full.
+    pub fn holds_reached(&self) -> u32 {
+        self.n_hold_notes.min(self.holds_passed.unwrap_or(u32::MAX))
+    }
+
     pub fn total_hits(&self) -> u32 {
         let objects = self.n_objects.min(self.given_passed().unwrap_or(u32::MAX));
 
         if self.classic {
             objects
         } else {
-            objects + self.n_hold_notes
+            objects + self.holds_reached()
         }
     }
 
@@ -236,6 +244,10 @@ impl fmt::Display for Query {
 
         if let Some(passed) = self.given_passed() {
             write!(f, " passed {passed}")?;
+        }
+
+        if let Some(holds) = self.holds_passed {
+            write!(f, " holds passed {holds}")?;
         }
 
         write!(f, " acc {:?} ({:#018x})", self.acc, self.acc.to_bits())

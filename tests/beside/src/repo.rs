@@ -116,9 +116,10 @@ other_modes!(Osu Taiko Catch);
 pub fn inspect<T>(q: &Query, f: impl FnOnce(InspectManiaPerformance<'_>) -> T) -> T {
     let [n320, n300, n200, n100, n50] = q.given();
 
+    // Document 02 compares with the Rust on the chart that has only the holds reached.
     let attrs = ManiaDifficultyAttributes {
         n_objects: q.n_objects,
-        n_hold_notes: q.n_hold_notes,
+        n_hold_notes: q.holds_reached(),
     };
 
     let perf = ManiaPerformance {

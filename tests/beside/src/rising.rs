@@ -6,7 +6,7 @@
 use std::{collections::BTreeSet, fmt};
 
 use crate::{
-    inputs::{self, INSIDE, OUTSIDE, Rng, Size},
+    inputs::{self, Holds, INSIDE, OUTSIDE, Rng, Size},
     ours,
     query::{ACC, Answer, CHART, MISSES, Method, PASSED, Query},
     sheet::{self, ANSWER, Chart, QUERIES},
@@ -145,9 +145,15 @@ fn around(full: u32, points: impl Iterator<Item = u32>) -> Vec<f64> {
         .collect()
 }
 
-/// A query over this chart that no check but 11 stops. A plain one gives neither misses nor passed.
+/// A query over this chart that no check but 11 stops. A plain one gives neither misses nor passed
+/// nor the holds passed.
 fn query(rng: &mut Rng, chart: Chart, turn: u64, plain: bool) -> Query {
-    let mut q = inputs::query_over(rng, chart, Method::Nearest, turn);
+    let holds = if plain {
+        Holds::InFull
+    } else {
+        Holds::OneInFour
+    };
+    let mut q = inputs::query_over(rng, chart, Method::Nearest, turn, holds);
 
     q.presence |= ACC;
 

@@ -1,4 +1,5 @@
-//! Document 01's sheet: how its bytes lie, and what the call that works it must answer.
+//! Document 01's sheet, with document 02's longer queries: how its bytes lie, and what the call that
+//! works it must answer.
 
 use std::{iter, ops::Range};
 
@@ -11,8 +12,12 @@ pub const CHARTS: usize = 256;
 pub const QUERIES: usize = 1_024;
 
 /// Bytes of a query and of an answer.
-pub const ROW: usize = 44;
+pub const ROW: usize = 48;
 pub const ANSWER: usize = 36;
+
+/// The bytes of a query that say whether the holds passed are given, and how many they are.
+pub const HOLDS_GIVEN: usize = 6;
+pub const HOLDS_PASSED: Range<usize> = 44..48;
 
 pub type Chart = (u32, u32);
 pub type Row = [u8; ROW];
@@ -51,10 +56,15 @@ pub fn row(index: usize, q: &Query) -> Row {
         row[at..at + 4].copy_from_slice(&n.to_le_bytes());
     }
 
-    row[36..].copy_from_slice(&q.acc.to_le_bytes());
+    row[36..44].copy_from_slice(&q.acc.to_le_bytes());
 
     for bytes in missing(q.presence) {
         row[bytes].fill(0);
+    }
+
+    if let Some(holds) = q.holds_passed {
+        row[HOLDS_GIVEN] = 1;
+        row[HOLDS_PASSED].copy_from_slice(&holds.to_le_bytes());
     }
 
     row
@@ -95,16 +105,21 @@ fn answer(row: &[u8], charts: &[u8]) -> Answer {
         counts: std::array::from_fn(|i| u32_at(row, 8 + 4 * i)),
         misses: u32_at(row, 28),
         passed: u32_at(row, 32),
-        acc: f64::from_le_bytes(row[36..].try_into().unwrap()),
+        acc: f64::from_le_bytes(row[36..44].try_into().unwrap()),
+        holds_passed: (row[HOLDS_GIVEN] == 1).then(|| u32_at(row, HOLDS_PASSED.start)),
     };
 
     let nonzero = |bytes: Range<usize>| row[bytes].iter().any(|&byte| byte != 0);
+    let holds_left = match row[HOLDS_GIVEN] {
+        0 => nonzero(HOLDS_PASSED),
+        given => given > 1,
+    };
 
     if q.chart_over() {
         Answer::refused(7)
     } else if q.method().is_none() || q.priority > 1 || row[4] > 1 {
         Answer::refused(8)
-    } else if nonzero(6..8) || missing(q.presence).any(nonzero) {
+    } else if holds_left || row[7] != 0 || missing(q.presence).any(nonzero) {
         Answer::refused(9)
     } else {
         generate::answer(&q)

@@ -1,10 +1,11 @@
 //! Sheets: document 01's example, a fixed list at the limits, and random ones, many of them damaged.
 
 use crate::{
-    inputs::{self, Rng},
+    holds_sheets,
+    inputs::{self, Holds, Rng},
     plays,
     query::{CHART, Method, Query},
-    sheet::{self, CHARTS, Chart, QUERIES, ROW, Row},
+    sheet::{self, CHARTS, Chart, HOLDS_GIVEN, HOLDS_PASSED, QUERIES, ROW, Row},
 };
 
 /// The most hits for which the Rust's Closest searches with three or more missing.
@@ -50,6 +51,7 @@ pub fn stored() -> Vec<(&'static str, Vec<u8>)> {
         ("full.sheet", full(&mut Rng::new(1))),
         ("full_one_follows.sheet", with(&zeros, &[0])),
         ("full_two_follow.sheet", with(&zeros, &[0; 2])),
+        ("holds_passed.sheet", holds_sheets::stored()),
     ]
 }
 
@@ -64,13 +66,14 @@ pub fn fixed(visit: &mut dyn FnMut(&[u8])) {
     presences(rng, visit);
     documented(visit);
     visit(&left_over());
+    holds_sheets::fixed(rng, visit);
 }
 
 /// A row for each method, over two charts.
 fn four(rng: &mut Rng, charts: [Chart; 2]) -> Vec<Row> {
     let row = |method: Method| {
         let index = usize::from(method.code() % 2);
-        sheet::row(index, &query(rng, charts[index], method))
+        sheet::row(index, &query(rng, charts[index], method, Holds::OneInFour))
     };
 
     Method::ALL.map(row).to_vec()
@@ -126,11 +129,15 @@ fn limits(rng: &mut Rng, visit: &mut dyn FnMut(&[u8])) {
     }
 }
 
-/// Rows with one nonzero byte where zeros belong, for no field given and for all but the byte's.
+/// Rows with one nonzero byte where zeros belong, for no field given and for all but the byte's; with
+/// and without holds passed.
 fn nonzero(rng: &mut Rng, visit: &mut dyn FnMut(&[u8])) {
-    let chart = (20, 0);
+    let chart = (20, 5);
 
-    for method in Method::ALL {
+    for (method, holds) in Method::ALL
+        .into_iter()
+        .flat_map(|method| [Holds::InFull, Holds::Passed].map(|holds| (method, holds)))
+    {
         let mut rows = Vec::new();
 
         for (at, byte) in (6..ROW).flat_map(|at| [(at, 1), (at, 0x80)]) {
@@ -138,7 +145,7 @@ fn nonzero(rng: &mut Rng, visit: &mut dyn FnMut(&[u8])) {
             let others = others.find(|&others| sheet::missing(others).any(|m| m.contains(&at)));
 
             for presence in [0, others.unwrap_or(u8::MAX)] {
-                let q = query(rng, chart, method);
+                let q = query(rng, chart, method, holds);
                 let mut row = sheet::row(0, &Query { presence, ..q });
                 row[at] = byte;
                 rows.push(row);
@@ -157,7 +164,7 @@ fn presences(rng: &mut Rng, visit: &mut dyn FnMut(&[u8])) {
         let mut row = |i: usize| loop {
             let (presence, method) = (i % CHARTS, Method::ALL[i / CHARTS]);
             let turn = presence as u64 % 32 + 32 * priority_and_classic;
-            let q = inputs::query_over(rng, charts[presence], method, turn);
+            let q = inputs::query_over(rng, charts[presence], method, turn, Holds::OneInFour);
 
             if usize::from(q.presence) == presence {
                 return sheet::row(presence, &q);
@@ -169,9 +176,13 @@ fn presences(rng: &mut Rng, visit: &mut dyn FnMut(&[u8])) {
     }
 }
 
-/// Document 01's plays.
+/// Document 01's plays, broken off too.
 fn documented(visit: &mut dyn FnMut(&[u8])) {
-    let plays = Method::ALL.into_iter().flat_map(plays::of);
+    let broken_off = Method::ALL.into_iter().flat_map(plays::broken_off);
+    let plays = Method::ALL
+        .into_iter()
+        .flat_map(plays::of)
+        .chain(broken_off);
     let queries: Vec<_> = plays.map(|play| play.query).collect();
 
     visit(&own_charts(&queries));
@@ -217,13 +228,13 @@ fn chart(rng: &mut Rng) -> Chart {
 }
 
 /// A query over this chart, or any chart if it is over the limit.
-fn query(rng: &mut Rng, chart: Chart, method: Method) -> Query {
+fn query(rng: &mut Rng, chart: Chart, method: Method, holds: Holds) -> Query {
     let over = chart.0 > CHART || chart.1 > CHART;
     let chart = if over { (20, 5) } else { chart };
 
     loop {
         let turn = rng.next();
-        let q = inputs::query_over(rng, chart, method, turn);
+        let q = inputs::query_over(rng, chart, method, turn, holds);
         let short = q.missing() < 3 || q.total_hits() <= SEARCHED;
 
         if method != Method::Closest || short {
@@ -233,7 +244,7 @@ fn query(rng: &mut Rng, chart: Chart, method: Method) -> Query {
 }
 
 /// A random row; one in eight breaks a check of the direct call, one in four has damaged bytes.
-fn row(rng: &mut Rng, charts: &[Chart]) -> Row {
+fn row(rng: &mut Rng, charts: &[Chart], holds: Holds) -> Row {
     let index = if charts.is_empty() || rng.one_in(32) {
         charts.len() + rng.upto(1) as usize
     } else {
@@ -242,7 +253,7 @@ fn row(rng: &mut Rng, charts: &[Chart]) -> Row {
 
     let method = rng.pick(&Method::ALL);
     let chart = charts.get(index).copied().unwrap_or((5, 0));
-    let mut q = query(rng, chart, method);
+    let mut q = query(rng, chart, method, holds);
 
     if rng.one_in(8) {
         inputs::spoil(rng, &mut q);
@@ -254,7 +265,23 @@ fn row(rng: &mut Rng, charts: &[Chart]) -> Row {
         damage(rng, &mut row);
     }
 
+    if !matches!(holds, Holds::InFull) && rng.one_in(16) {
+        damage_holds(rng, &mut row);
+    }
+
     row
+}
+
+/// Breaks what check 9 asks of byte 6, byte 7 or the last field.
+fn damage_holds(rng: &mut Rng, row: &mut Row) {
+    match rng.upto(2) {
+        0 => row[HOLDS_GIVEN] = rng.pick(&[2, 3, 128, 255]),
+        1 => row[7] = rng.pick(&[1, 2, 128, 255]),
+        _ => {
+            row[HOLDS_GIVEN] = 0;
+            row[HOLDS_PASSED][rng.upto(3) as usize] = 1 << rng.upto(7);
+        }
+    }
 }
 
 /// Breaks what the checks 6, 8 and 9 ask for, often in several places.
@@ -280,10 +307,12 @@ fn damage(rng: &mut Rng, row: &mut Row) {
     }
 }
 
-/// A full sheet, whose rows have every method and every status.
+/// A full sheet, whose rows have every method and every status. The gate stores it.
 pub fn full(rng: &mut Rng) -> Vec<u8> {
     let charts: Vec<_> = (0..CHARTS).map(|_| chart(rng)).collect();
-    let rows: Vec<_> = (0..QUERIES).map(|_| row(rng, &charts)).collect();
+    let rows: Vec<_> = (0..QUERIES)
+        .map(|_| row(rng, &charts, Holds::InFull))
+        .collect();
 
     sheet::bytes(&charts, &rows)
 }
@@ -298,7 +327,9 @@ pub fn random(rng: &mut Rng) -> Vec<u8> {
     };
 
     let charts: Vec<_> = (0..charts).map(|_| chart(rng)).collect();
-    let rows: Vec<_> = (0..rows).map(|_| row(rng, &charts)).collect();
+    let rows: Vec<_> = (0..rows)
+        .map(|_| row(rng, &charts, Holds::OneInFour))
+        .collect();
     let mut bytes = sheet::bytes(&charts, &rows);
 
     if rng.one_in(3) {
@@ -323,7 +354,7 @@ fn spoil(rng: &mut Rng, bytes: &mut Vec<u8>, charts: usize, rows: usize) {
         ),
         4 => bytes.extend((0..=rng.upto(90)).map(|_| rng.next() as u8)),
         // Too few bytes for a row, so that no long search comes about.
-        5 => *bytes = (0..rng.upto(51)).map(|_| rng.next() as u8 & 1).collect(),
+        5 => *bytes = (0..rng.upto(55)).map(|_| rng.next() as u8 & 1).collect(),
         _ => {}
     }
 

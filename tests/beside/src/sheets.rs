@@ -4,11 +4,12 @@
 use std::io;
 
 use crate::{
+    holds_sheets,
     inputs::{Rng, Size},
     ours, plays,
     program::{self, Program, hex},
     query::Answer,
-    sheet::{self, ANSWER},
+    sheet::{self, ANSWER, QUERIES},
     sheet_inputs,
     tally::{Tally, first_wrong},
 };
@@ -20,7 +21,7 @@ const SENTINEL: u8 = 0xA5;
 const AROUND: usize = 16;
 
 /// The most that the program reads.
-const READ: usize = 47_113;
+const READ: usize = 51_209;
 
 /// What document 01 prints for its example, with document 02's left.
 const EXAMPLE: &str = "query status n320 n300 n200 n100 n50 misses tried left
@@ -91,11 +92,38 @@ impl Part<'_> {
 
     /// Compares rows alone in their sheets, with outputs of every length up to one past the answer.
     fn one_row(&mut self) {
-        for (q, _) in plays::left_over() {
+        let left_over = plays::left_over().into_iter().map(|(q, _)| q);
+        let with_holds = plays::with_holds().into_iter().map(|(q, _)| q);
+
+        for q in left_over.chain(with_holds) {
             let bytes = sheet_inputs::own_charts(&[q]);
             let answers = sheet::answers(&bytes);
             self.tally.inputs += 1;
             (0..=ANSWER + 1).for_each(|len| self.work(&bytes, &answers, len));
+        }
+    }
+
+    /// Compares rows with holds passed, whose answers or statuses are told by hand.
+    fn told_by_hand(&mut self) {
+        let (queries, right): (Vec<_>, Vec<_>) = plays::with_holds().into_iter().unzip();
+        let bytes = sheet_inputs::own_charts(&queries);
+        let answers = sheet::answers(&bytes);
+        self.tally.judge(answers.as_ref() == Ok(&right), || {
+            format!("with holds passed: {answers:?}, by hand {right:?}")
+        });
+        self.compare(&bytes);
+        self.run(&bytes);
+
+        for rows in holds_sheets::told().chunks(QUERIES) {
+            let (rows, right): (Vec<_>, Vec<_>) = rows.iter().copied().unzip();
+            let bytes = sheet::bytes(&holds_sheets::TOLD_CHARTS, &rows);
+            let answers = sheet::answers(&bytes).unwrap_or_default();
+            let statuses: Vec<_> = answers.iter().map(|answer| answer.status).collect();
+            self.tally.judge(statuses == right, || {
+                format!("statuses {statuses:?}, by hand {right:?}")
+            });
+            self.compare(&bytes);
+            self.run(&bytes);
         }
     }
 
@@ -146,7 +174,9 @@ pub fn run(rng: &mut Rng) -> bool {
     });
     part.run(&example);
     part.run(&sheet_inputs::left_over());
+    part.run(&holds_sheets::stored());
     part.one_row();
+    part.told_by_hand();
 
     sheet_inputs::fixed(&mut |bytes| part.compare(bytes));
 

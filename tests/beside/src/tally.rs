@@ -100,14 +100,20 @@ impl Tally {
         }
     }
 
-    /// Compares the plays of document 01: the other side's answer with the document's, ours with
-    /// the other side's.
+    /// Compares the plays of document 01, broken off too: the other side's answer with the document's,
+    /// ours with the other side's.
     pub fn plays(&mut self, method: Method, answer: impl Fn(&Query) -> Answer) {
-        for play in plays::of(method) {
+        for play in plays::of(method)
+            .into_iter()
+            .chain(plays::broken_off(method))
+        {
             let answer = answer(&play.query);
             self.generate(&play.query, answer);
             self.judge(play.holds(&answer), || {
-                format!("play {}: {answer}, not as document 01 says", play.label)
+                format!(
+                    "play {}, {}: {answer}, not as document 01 says",
+                    play.label, play.query
+                )
             });
         }
     }

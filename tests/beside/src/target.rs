@@ -1,7 +1,7 @@
 //! Part target: the library's beside inspect.rs and the line of closest.rs that rounds the target.
 
 use crate::{
-    inputs::{self, INSIDE, OUTSIDE, Rng, Size},
+    inputs::{self, Holds, INSIDE, OUTSIDE, Rng, Size},
     ours,
     query::{CAP, CHART, MISSES, Method, PASSED, Query},
     repo,
@@ -57,6 +57,7 @@ pub fn limits(mut visit: impl FnMut(&Query)) {
                             misses: misses.unwrap_or(u32::MAX),
                             passed: passed.unwrap_or(0),
                             acc,
+                            holds_passed: None,
                         });
                     }
                 }
@@ -67,10 +68,10 @@ pub fn limits(mut visit: impl FnMut(&Query)) {
 
 /// A random query of any size, most with an accepted acc; of these four in ten have a product at
 /// half a point off a whole number, or are the neighbours of such an acc.
-pub fn random(rng: &mut Rng) -> Query {
+pub fn random(rng: &mut Rng, holds: Holds) -> Query {
     let hits = rng.pick(&[6, 100, 3_000, CHART, CHART + 1]);
     let turn = rng.next();
-    let mut q = inputs::query(rng, Method::IgnoreAcc, turn, hits);
+    let mut q = inputs::query(rng, Method::IgnoreAcc, turn, hits, holds);
 
     if !q.chart_over() && !rng.one_in(16) {
         q.acc = inputs::acc(rng, q.full_points());
@@ -95,7 +96,7 @@ pub fn run(rng: &mut Rng) -> bool {
     });
 
     for _ in 0..size.random {
-        compare(&random(rng));
+        compare(&random(rng, Holds::OneInFour));
     }
 
     tally.finish()

@@ -17,11 +17,14 @@ use Rattle.direct.proofs.generate.Tie as tie
 returns : tie.Need-returns
 returns c =
     let x = c .before .before .args in
-    let q = queryBy (x .objects) (x .holds) (x .method) (x .priority) (x .classic) (x .presence) (sixCounts (x .n320) (x .n300) (x .n200) (x .n100) (x .n50) (x .misses)) (x .passed) (x .acc) in
+    let q = queryBy (x .objects) (x .holds) (x .method) (x .priority) (x .classic) (x .presence) (sixCounts (x .n320) (x .n300) (x .n200) (x .n100) (x .n50) (x .misses)) (x .passed) (x .holds-given) (x .holds-passed) (x .acc) in
     (handed-short 8 (generateAnswer q) (x .out .now) (c .if1 .taken), λ (h : 8 ≤ length (x .out .now)). absurd (not-le-of-lt (c .if1 .taken) h))
 
 acc-of-requires : tie.Need-acc-of-requires
 acc-of-requires c κs = tt
+
+holds-of-requires : tie.Need-holds-of-requires
+holds-of-requires c κs = tt
 
 generate-requires : tie.Need-generate-requires
 generate-requires c κs = tt
@@ -35,13 +38,13 @@ same-length c = search needs
 -- the query that is handed over is the one of these numbers
 returns-2 : tie.Need-returns-2
 returns-2 c =
-    let x = c .before .before .before .before .before .before .before .before .args in
-    let q = queryBy (x .objects) (x .holds) (x .method) (x .priority) (x .classic) (x .presence) (sixCounts (x .n320) (x .n300) (x .n200) (x .n100) (x .n50) (x .misses)) (x .passed) (x .acc) in
+    let x = c .before .before .before .before .before .before .before .before .before .args in
+    let q = queryBy (x .objects) (x .holds) (x .method) (x .priority) (x .classic) (x .presence) (sixCounts (x .n320) (x .n300) (x .n200) (x .n100) (x .n50) (x .misses)) (x .passed) (x .holds-given) (x .holds-passed) (x .acc) in
     let e : generatedOf (c .before .before .before .before .generate .result) ≡ generateAnswer q =
-    c .before .before .before .before .generate .ensures ∙ rw (c .before .before .before .before .before .acc-of .ensures) in
+    c .before .before .before .before .generate .ensures ∙ rw (c .before .before .before .before .before .before .acc-of .ensures, c .before .before .before .before .before .holds-of .ensures) in
     (c .before .before .hand .ensures .0 ∙ ap (λ (a : Answer (List ℕ)). handed 8 a (x .out .now)) e, λ (h : 8 ≤ length (x .out .now)). c .before .before .hand .ensures .1 ∙ e)
 
 pub generate-spec : {M : Type 1} → statement M
 generate-spec =
     tie.close
-    (tie.spec returns acc-of-requires generate-requires hand-requires same-length returns-2)
+    (tie.spec returns acc-of-requires holds-of-requires generate-requires hand-requires same-length returns-2)

@@ -13,7 +13,7 @@ use Rattle.nuqsillay.proofs.nuqsillay_target.Tie as tie
 returns : tie.Need-returns
 returns c =
     let x = c .before .before .args in
-    handed-short 4 (targetAnswer (targetQuery (x .objects) (x .holds) (x .classic) (x .presence) (x .misses) (x .passed) (x .acc))) (x .out .now) (c .if1 .taken)
+    handed-short 4 (targetAnswer (targetQuery (x .objects) (x .holds) (x .classic) (x .presence) (x .misses) (x .passed) (x .holds-given) (x .holds-passed) (x .acc))) (x .out .now) (c .if1 .taken)
 
 target-query-requires : tie.Need-target-query-requires
 target-query-requires c κs = tt
@@ -46,13 +46,13 @@ returns-2 : tie.Need-returns-2
 returns-2 c =
     let x = c .before .before .before .before .before .before .before .args in
     let t = c .before .t .given .0 .0 in
-    handed-worked 4 (t .«total_hits» .0 ∷ t .misses .0 ∷ t .remain .0 ∷ t .target .0 ∷ []) (targetAnswer (targetQuery (x .objects) (x .holds) (x .classic) (x .presence) (x .misses) (x .passed) (x .acc))) (x .out .now)
+    handed-worked 4 (t .«total_hits» .0 ∷ t .misses .0 ∷ t .remain .0 ∷ t .target .0 ∷ []) (targetAnswer (targetQuery (x .objects) (x .holds) (x .classic) (x .presence) (x .misses) (x .passed) (x .holds-given) (x .holds-passed) (x .acc))) (x .out .now)
     (c .before .before .before .before .before .if1 .left) (omega arith) (sym (ap answerOf (c .before .t .given .1)) ∙ c .before .before .before .rounded-target .ensures ∙ ap targetAnswer (c .before .before .before .before .target-query .ensures))
 
 returns-3 : tie.Need-returns-3
 returns-3 c =
     let x = c .before .before .before .before .before .before .before .args in
-    handed-refused 4 (c .before .n .given .0 .0) (targetAnswer (targetQuery (x .objects) (x .holds) (x .classic) (x .presence) (x .misses) (x .passed) (x .acc))) (x .out .now)
+    handed-refused 4 (c .before .n .given .0 .0) (targetAnswer (targetQuery (x .objects) (x .holds) (x .classic) (x .presence) (x .misses) (x .passed) (x .holds-given) (x .holds-passed) (x .acc))) (x .out .now)
     (c .before .before .before .before .before .if1 .left) (sym (ap answerOf (c .before .n .given .1)) ∙ c .before .before .before .rounded-target .ensures ∙ ap targetAnswer (c .before .before .before .before .target-query .ensures))
 
 pub nuqsillay-target-spec : {M : Type 1} → statement M

@@ -6,10 +6,10 @@ use Rattle.replay.proofs.tally_of.Statement.{statement}
 use Rattle.replay.proofs.tally_of.Tie as tie
 
 abbrev Inv-loop : tie.InvT-loop
-Inv-loop s kind run₀ differ₀ i₀ run differ i = i ≤ length s / 80
+Inv-loop s kind run₀ differ₀ i₀ run differ i = i ≤ length s / 92
 
 abbrev μ-loop : tie.MeasureT-loop
-μ-loop s kind run₀ differ₀ i₀ run differ i = length s / 80 - i
+μ-loop s kind run₀ differ₀ i₀ run differ i = length s / 92 - i
 
 loop-holds : tie.Need-loop-holds Inv-loop μ-loop
 loop-holds c = search needs
