@@ -1,5 +1,6 @@
 -- Document 01, Where a row or sheet stops: "A direct call, which takes method and priority as numbers, refuses by 7, 8, 10 to 14 with
--- no counts." Document 02, L2, of the holds passed: "a direct call takes it as one more optional number". An output without room for the values is refused by 5, before anything else, and left unchanged.
+-- no counts." Document 02, L2, of the holds passed: "a direct call takes it as one more optional number". An output without room for
+-- the values is refused by 5, before anything else, and left unchanged.
 use Prim.Native.Nat.{ℕ, _<_}
 use mathlib.Core.Bool.{Bool, true, false, cond}
 use mathlib.Core.List.{List, _++_}

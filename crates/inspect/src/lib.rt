@@ -29,7 +29,7 @@ pub enum Accuracy {
     Absent,
 }
 
-// The hold notes that a player reached: all of the chart, or so many were passed in a play that was broken off.
+// The hold notes of a play: all that the chart has, or, where it was broken off, how many were passed.
 pub enum Holds {
     InFull,
     Passed(u32),

@@ -16,8 +16,7 @@ abbrev pub valueOr : Answer Float → Float → Float
 valueOr (worked x) old = x
 valueOr (refused n) old = old
 
--- the query of `nuqsillay_target`: no count is given but misses and passed, by their own bits of presence, and the
--- holds passed
+-- the query of `nuqsillay_target`: no count is given but misses and passed, by their own bits of presence, and the holds passed
 abbrev pub targetQuery : ℕ → ℕ → Bool → ℕ → ℕ → ℕ → ℕ → ℕ → Float → Query
 targetQuery objects holds classic presence misses passed holdsGiven holdsPassed acc =
     record {

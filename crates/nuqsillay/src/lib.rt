@@ -1,4 +1,5 @@
-// The calls that C and Rust programs link: numbers and slices only. Their header is include/nuqsillay.h.
+// The calls that C and Rust programs link: numbers and slices only. Their header is include/nuqsillay.h. holds_given is a bool there, one
+// byte of 0 or 1 (`direct::holds_of` says why it is none here).
 ghost use mathlib.Core.Path.{_≡_};
 ghost use lib.ListN.{length};
 ghost use Rattle.score_state.specs.Answer.{statusOf};
