@@ -42,14 +42,14 @@ at (suc n) f t k h = go (eqb k n) refl (λ (l : k < n). at n f (second (f n) (be
     go false e i = let z : k ≡ n → ⊥ = apart k n e in i (omega arith)
 
 -- the test t passes at each of the 32 numbers that g picks
-abbrev pub Holds : (ℕ → Bool) → (ℕ → Bool) → Type 0
-Holds g t = T (below 32 (λ k. imp (g k) (t k)))
+abbrev pub PassesAt : (ℕ → Bool) → (ℕ → Bool) → Type 0
+PassesAt g t = T (below 32 (λ k. imp (g k) (t k)))
 
-picked : (g t : ℕ → Bool) → Holds g t → (k : ℕ) → k < 32 → g k ≡ true → T (t k)
+picked : (g t : ℕ → Bool) → PassesAt g t → (k : ℕ) → k < 32 → g k ≡ true → T (t k)
 picked g t p k h e = unimp (g k) (t k) (at 32 (λ n. imp (g n) (t n)) p k h) e
 
 -- where every number that passes is one of the keys
-pub one-of : (t : ℕ → Bool) (ks : List ℕ) → Holds t (hasKey ks) → (k : ℕ) → k < 32 → t k ≡ true → OneOf ks k
+pub one-of : (t : ℕ → Bool) (ks : List ℕ) → PassesAt t (hasKey ks) → (k : ℕ) → k < 32 → t k ≡ true → OneOf ks k
 one-of t ks p k h e = hit ks k (picked t (hasKey ks) p k h e)
 
 -- ---- the facts of a match as tests
@@ -75,22 +75,22 @@ none [] x n = refl
 none (ks ∷ kss) x n = rw (of-not (hasKey ks x) (λ h. n .1 (hit ks x h)), none kss x (n .0))
 
 -- an arm that is reached by the keys ks
-pub at-keys : (t : ℕ → Bool) (ks : List ℕ) → Holds (hasKey ks) t → (k : ℕ) → k < 32 → OneOf ks k → T (t k)
+pub at-keys : (t : ℕ → Bool) (ks : List ℕ) → PassesAt (hasKey ks) t → (k : ℕ) → k < 32 → OneOf ks k → T (t k)
 at-keys t ks p k h o = picked (hasKey ks) t p k h (by (hasKey ks k) (λ n. miss ks k n o))
 
 abbrev pub inSpan : List (List ℕ) → ℕ → ℕ → ℕ → Bool
 inSpan kss lo hi k = noneOf kss k && (leb lo k && ltb k hi)
 
 -- an arm that is reached by being none of the keys, and between lo and hi
-pub in-span : (t : ℕ → Bool) (kss : List (List ℕ)) (lo hi : ℕ) → Holds (inSpan kss lo hi) t → (k : ℕ) → k < 32 → NoneOf kss k → lo ≤ k → k < hi → T (t k)
+pub in-span : (t : ℕ → Bool) (kss : List (List ℕ)) (lo hi : ℕ) → PassesAt (inSpan kss lo hi) t → (k : ℕ) → k < 32 → NoneOf kss k → lo ≤ k → k < hi → T (t k)
 in-span t kss lo hi p k h n l u = picked (inSpan kss lo hi) t p k h (rw (none kss k n, le-leb lo k l, lt-ltb k hi u))
 
 -- ---- the value of a function at the numbers of an arm
 abbrev is : (ℕ → ℕ) → ℕ → ℕ → Bool
 is f v k = eqb v (f k)
 
-pub value-at-keys : (f : ℕ → ℕ) (v : ℕ) (ks : List ℕ) → Holds (hasKey ks) (is f v) → (k : ℕ) → k < 32 → OneOf ks k → v ≡ f k
+pub value-at-keys : (f : ℕ → ℕ) (v : ℕ) (ks : List ℕ) → PassesAt (hasKey ks) (is f v) → (k : ℕ) → k < 32 → OneOf ks k → v ≡ f k
 value-at-keys f v ks p k h o = eqb→eq v (f k) (at-keys (is f v) ks p k h o)
 
-pub value-in-span : (f : ℕ → ℕ) (v : ℕ) (kss : List (List ℕ)) (lo hi : ℕ) → Holds (inSpan kss lo hi) (is f v) → (k : ℕ) → k < 32 → NoneOf kss k → lo ≤ k → k < hi → v ≡ f k
+pub value-in-span : (f : ℕ → ℕ) (v : ℕ) (kss : List (List ℕ)) (lo hi : ℕ) → PassesAt (inSpan kss lo hi) (is f v) → (k : ℕ) → k < 32 → NoneOf kss k → lo ≤ k → k < hi → v ≡ f k
 value-in-span f v kss lo hi p k h n l u = eqb→eq v (f k) (in-span (is f v) kss lo hi p k h n l u)

@@ -9,7 +9,7 @@ use mir.Val.{hasKey}
 use Rattle.inspect.specs.Presence.{has, lacking, missingOf}
 use Rattle.inspect.specs.declared.Missing.{Missing}
 use Rattle.inspect.specs.declared.Missing.the-variants.{Nothing, One, Two, ThreePlus}
-use Rattle.inspect.proofs.Arms.{Holds, NoneOf, inSpan, value-at-keys, value-in-span}
+use Rattle.inspect.proofs.Arms.{PassesAt, NoneOf, inSpan, value-at-keys, value-in-span}
 
 -- the cases of the enum as numbers, and back
 abbrev code : Missing → ℕ
@@ -66,9 +66,9 @@ back : (v : Missing) (p : ℕ) → code v ≡ asked (p % 32) → v ≡ missingOf
 back v p e = sym (decoded v) ∙ ap missingOf e ∙ decoded (missingOf (lacking (p % 32))) ∙ ap missingOf (five-bits p)
 
 -- an arm that is reached by the keys ks, and one by being none of the keys, and between lo and hi
-pub at-keys : (v : Missing) (ks : List ℕ) → Holds (hasKey ks) (λ k. eqb (code v) (asked k)) → (p : ℕ) → OneOf ks (p % 32) → v ≡ missingOf (lacking p)
+pub at-keys : (v : Missing) (ks : List ℕ) → PassesAt (hasKey ks) (λ k. eqb (code v) (asked k)) → (p : ℕ) → OneOf ks (p % 32) → v ≡ missingOf (lacking p)
 at-keys v ks t p o = back v p (value-at-keys asked (code v) ks t (p % 32) (omega arith) o)
 
-pub in-span : (v : Missing) (kss : List (List ℕ)) (lo hi : ℕ) → Holds (inSpan kss lo hi) (λ k. eqb (code v) (asked k))
+pub in-span : (v : Missing) (kss : List (List ℕ)) (lo hi : ℕ) → PassesAt (inSpan kss lo hi) (λ k. eqb (code v) (asked k))
     → (p : ℕ) → NoneOf kss (p % 32) → lo ≤ p % 32 → p % 32 < hi → v ≡ missingOf (lacking p)
 in-span v kss lo hi t p n l u = back v p (value-in-span asked (code v) kss lo hi t (p % 32) (omega arith) n l u)
