@@ -4,7 +4,9 @@
     python3 examples/make_sheet.py > examples/sample.sheet
     target/bin/sheet < examples/sample.sheet
 
-With --example it is document 01's example of two rows. Numbers are little-endian; a missing field is all zero bytes.
+With --example it is document 01's example of two rows. With --weights and five numbers it is the sample under a league's own
+weights, from n320 to n50: its rows of Fast and Closest are stopped by 19, and weights that do not fall as they must are refused
+with the whole sheet, by 18. Numbers are little-endian; a missing field is all zero bytes.
 """
 
 import struct
@@ -32,15 +34,19 @@ def query(chart, method, priority=BEST_CASE, classic=False, holds=None, **given)
     return struct.pack("<HBBBBBB7IdI", *codes, *counts, given.get("acc", 0.0), holds or 0)
 
 
-def sheet(charts, queries):
-    """The charts (objects, hold notes) and the queries, each section after its count."""
+def sheet(charts, queries, weights=None):
+    """The charts (objects, hold notes), the weights, and the queries, each section after its count.
+
+    weights are a league's own five, from n320 to n50; without them the section has no record, and the standard weights hold.
+    """
     records = [struct.pack("<II", *chart) for chart in charts]
-    return b"".join([struct.pack("<I", len(records)), *records, struct.pack("<I", len(queries)), *queries])
+    own = [] if weights is None else [struct.pack("<5I", *weights)]
+    return b"".join(struct.pack("<I", len(section)) + b"".join(section) for section in (records, own, queries))
 
 
-EXAMPLE = sheet([(20, 0)], [query(0, NEAREST, n320=0, n300=0, acc=1.0), query(0, NEAREST)])
+EXAMPLE = ([(20, 0)], [query(0, NEAREST, n320=0, n300=0, acc=1.0), query(0, NEAREST)])
 
-SAMPLE = sheet(
+SAMPLE = (
     [(20, 0), (1204, 312)],
     [
         # The same play by three methods: 20 notes at 705 of 1,220 points.
@@ -63,6 +69,12 @@ SAMPLE = sheet(
 )
 
 if __name__ == "__main__":
-    if sys.argv[1:] not in ([], ["--example"]):
-        sys.exit("usage: make_sheet.py [--example]")
-    sys.stdout.buffer.write(EXAMPLE if len(sys.argv) > 1 else SAMPLE)
+    arguments = sys.argv[1:]
+    try:
+        if arguments[:1] == ["--weights"]:
+            made = sheet(*SAMPLE, weights=map(int, arguments[1:]))
+        else:
+            made = sheet(*{(): SAMPLE, ("--example",): EXAMPLE}[tuple(arguments)])
+    except (KeyError, ValueError, struct.error):
+        sys.exit("usage: make_sheet.py [--example | --weights W320 W300 W200 W100 W50]")
+    sys.stdout.buffer.write(made)

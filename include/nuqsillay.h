@@ -33,8 +33,9 @@ enum nuqsillay_status {
     NUQSILLAY_ACC_MISSING = 13,   /* Nearest: acc is missing */
     NUQSILLAY_NO_SPLIT = 14,      /* Nearest: no split exists, as the given counts sum to over the remaining hits, or all five
                                      are given with another sum */
-    NUQSILLAY_BAD_WEIGHTS = 18    /* weights do not fall from at most 100 to at least 1: strictly, but for the first two, which may
-                                     be equal */
+    NUQSILLAY_BAD_WEIGHTS = 18,   /* weights do not fall from at most 100 to at least 1: strictly, but for the first two, which may
+                                     be equal; of a sheet also: its count of own weights is over 1 */
+    NUQSILLAY_OWN_WEIGHTS = 19    /* a row of Fast or Closest in a sheet with own weights */
 };
 
 enum nuqsillay_method {
@@ -86,15 +87,21 @@ uint32_t nuqsillay_generate(uint32_t n_objects, uint32_t n_hold_notes, uint8_t m
                             uint32_t *out, size_t out_len);
 
 /* Works a sheet: every row's answer to out, 36 bytes each, as nine little-endian fields: status u32, then the eight of
- * nuqsillay_generate, seven u32 and left i32. A row's status is 0, or 6 to 14 with zeros after it; the next row is worked all
- * the same. Bytes past the last answer stay. Refused by 1 to 5: each section's count is judged (2, 3) before its records (1),
- * then 4, then 5. sheet and out must not overlap.
+ * nuqsillay_generate, seven u32 and left i32. A row's status is 0, or 6 to 14 or 19 with zeros after it; the next row is worked
+ * all the same. Bytes past the last answer stay. Refused by 1 to 5 and 18: each section's count is judged (2, 18, 3) before its
+ * records (1), own weights (18) once they are all there, then 4, then 5. sheet and out must not overlap.
  *
  * A sheet, little-endian: the number of charts (u32, at most 256), the charts (8 bytes: objects u32, hold notes u32), the number
- * of queries (u32, at most 1,024), the queries (48 bytes):
+ * of sets of own weights (u32, 0 or 1), the set (20 bytes: five u32 from n320 to n50), the number of queries (u32, at most
+ * 1,024), the queries (48 bytes):
  *   0 chart index u16, 2 method u8, 3 priority u8, 4 classic u8 (0, 1), 5 presence u8, 6 holds_given u8 (0, 1), 7 a zero byte,
  *   8 n320, 12 n300, 16 n200, 20 n100, 24 n50, 28 misses, 32 passed, each u32, 36 acc f64, 44 holds_passed u32; a missing
- *   field is all zero bytes, and so is holds_passed where byte 6 is 0. */
+ *   field is all zero bytes, and so is holds_passed where byte 6 is 0.
+ *
+ * With own weights Nearest scores by them, w being that of n320: classic then says only whether hold notes are judged twice, and
+ * n300 counts as given with 0 where it weighs as much as n320 and both are missing. IgnoreAccuracy needs no weights; Fast and
+ * Closest are stopped by 19, after 9. The other calls keep the standard weights. A row of Nearest tries at most 88,434
+ * candidates, with own weights 1,940,598. */
 uint32_t nuqsillay_work_sheet(const uint8_t *sheet, size_t sheet_len, uint8_t *out, size_t out_len);
 
 /* The strides of Nearest's walk under two weightings, a and b, each from n320 to n50. out, of at least 320 numbers: 64 rows of

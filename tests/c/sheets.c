@@ -1,5 +1,6 @@
 /* sheets: checks what the library's sheet call answers and what it leaves in the output: document 01's example, a row for each
- * status, points left over, holds passed, outputs of every length, sheets cut at every byte, and counts past their limits.
+ * status, points left over, holds passed, own weights, outputs of every length, sheets cut at every byte, and counts past their
+ * limits.
  * Prints 'sheets: N checked, D differ'; ends with 1 if any differs. */
 #include <math.h>
 #include <stdio.h>
@@ -7,7 +8,8 @@
 
 #include "nuqsillay.h"
 
-enum { COUNT = 4, CHART = 8, QUERY = 48, FIELDS = 9, ANSWER = 4 * FIELDS, MOST = 51208, ROOM = 64 };
+/* MOST is a full sheet with own weights. */
+enum { COUNT = 4, CHART = 8, WEIGHTS = 20, QUERY = 48, FIELDS = 9, ANSWER = 4 * FIELDS, MOST = 51232, ROOM = 64 };
 
 /* What stands in an output before a call. */
 enum { BEFORE = 0xA5 };
@@ -50,6 +52,14 @@ static void put_charts(struct sheet *s, uint32_t count, const uint32_t (*charts)
         put(s, charts[i][0], 4);
         put(s, charts[i][1], 4);
     }
+}
+
+/* The section between charts and queries: no record where the weights are the standard ones. */
+static void put_weights(struct sheet *s, const uint32_t *own)
+{
+    put(s, own != NULL, 4);
+    for (int i = 0; own != NULL && i < 5; i++)
+        put(s, own[i], 4);
 }
 
 static void put_query(struct sheet *s, const struct query *q)
@@ -116,6 +126,7 @@ static void check_example(void)
     const struct query e = {.method = NUQSILLAY_NEAREST, .presence = NUQSILLAY_HAS_N320 | NUQSILLAY_HAS_N300 | NUQSILLAY_HAS_ACC, .acc = 1};
     const struct query bare = {.method = NUQSILLAY_NEAREST};
     put_charts(&s, 1, charts);
+    put_weights(&s, NULL);
     put(&s, 2, 4);
     put_query(&s, &e);
     put_query(&s, &bare);
@@ -132,6 +143,7 @@ static void check_left(void)
     const uint32_t charts[1][2] = {{1, 0}};
     const struct query q = {.method = NUQSILLAY_NEAREST, .presence = ONE_SPLIT, .acc = 9.0 / 61};
     put_charts(&s, 1, charts);
+    put_weights(&s, NULL);
     put(&s, 1, 4);
     put_query(&s, &q);
     check_sheet(&s, (const uint32_t[1][FIELDS]){{0, 0, 0, 0, 0, 1, 0, 1, UINT32_MAX}}, 1, "left");
@@ -176,6 +188,7 @@ static void check_statuses(void)
     };
     const size_t count = sizeof rows / sizeof *rows;
     put_charts(&s, 3, charts);
+    put_weights(&s, NULL);
     put(&s, count, 4);
     for (size_t i = 0; i < count; i++)
         put_query(&s, &rows[i]);
@@ -187,17 +200,36 @@ static void check_statuses(void)
     }, count, "statuses");
 }
 
+/* A row and its answer. */
+struct told {
+    struct query q;
+    uint32_t answer[FIELDS];
+};
+
+/* A sheet of rows told by hand. */
+static void check_told(uint32_t charts_count, const uint32_t (*charts)[2], const uint32_t *own, const struct told *rows,
+                       size_t count, const char *what)
+{
+    static struct sheet s;
+    static uint32_t answers[1024][FIELDS];
+    s.len = 0;
+    put_charts(&s, charts_count, charts);
+    put_weights(&s, own);
+    put(&s, count, 4);
+    for (size_t i = 0; i < count; i++) {
+        put_query(&s, &rows[i].q);
+        memcpy(answers[i], rows[i].answer, sizeof answers[i]);
+    }
+    check_sheet(&s, (const uint32_t (*)[FIELDS])answers, count, what);
+}
+
 /* Rows over charts of 20 objects, with 7 holds and with 100,001: the holds passed with byte 6 at 1, and all that check 9 refuses of
  * bytes 6, 7 and the last field, of classic rows too. Where nothing else is given IgnoreAccuracy makes a 320 of every hit. */
 static void check_holds(void)
 {
-    static struct sheet s;
     const uint32_t charts[2][2] = {{20, 7}, {20, 100001}};
     const uint8_t over = NUQSILLAY_HAS_N320;
-    const struct {
-        struct query q;
-        uint32_t answer[FIELDS];
-    } rows[] = {
+    const struct told rows[] = {
         {{0}, {0, 27}},
         {{.holds_given = 1}, {0, 20}},
         {{.holds_given = 1, .holds_passed = 1}, {0, 21}},
@@ -242,15 +274,107 @@ static void check_holds(void)
         {{.presence = over, .n = {1000001}, .holds_given = 1, .zero = 1}, {9}},
         {{.presence = over, .n = {1000001}, .holds_given = 1, .holds_passed = 1}, {10}},
     };
-    enum { ROWS = sizeof rows / sizeof *rows };
-    uint32_t answers[ROWS][FIELDS];
-    put_charts(&s, 2, charts);
-    put(&s, ROWS, 4);
-    for (size_t i = 0; i < ROWS; i++) {
-        put_query(&s, &rows[i].q);
-        memcpy(answers[i], rows[i].answer, sizeof answers[i]);
+    check_told(2, charts, NULL, rows, sizeof rows / sizeof *rows, "holds passed");
+}
+
+/* Own weights whose first two are equal: a pair that is missing folds, classic or not. Then rows of Fast and Closest, which are 19
+ * after every check up to 9 and before any other. */
+static void check_own(void)
+{
+    const uint32_t charts[3][2] = {{4, 2}, {3, 0}, {100001, 0}}, own[5] = {80, 80, 40, 20, 10};
+    const uint8_t middle = NUQSILLAY_HAS_N200 | NUQSILLAY_HAS_N100 | NUQSILLAY_HAS_ACC, last = middle | NUQSILLAY_HAS_N50;
+    const uint8_t all = ONE_SPLIT | NUQSILLAY_HAS_N50, over = NUQSILLAY_HAS_N320 | NUQSILLAY_HAS_ACC;
+    const struct told rows[] = {
+        /* Half of 80 points for each of six hits, or of four without the holds, is wanted, and n320 takes them all. */
+        {{.method = NUQSILLAY_NEAREST, .presence = last, .acc = 0.5}, {0, 6, 0, 0, 0, 0, 0, 1, -240u}},
+        {{.method = NUQSILLAY_NEAREST, .classic = 1, .presence = last, .acc = 0.5}, {0, 4, 0, 0, 0, 0, 0, 1, -160u}},
+        /* 150 points of three hits, n320 or n50: 100 and 170 are tried. */
+        {{.chart = 1, .method = NUQSILLAY_NEAREST, .presence = middle, .acc = 0.625}, {0, 2, 0, 0, 0, 1, 0, 2, -20u}},
+        /* No pair is missing. */
+        {{.chart = 1, .method = NUQSILLAY_NEAREST, .presence = last | NUQSILLAY_HAS_N300, .n = {0, 1}, .acc = 1},
+         {0, 2, 1, 0, 0, 0, 0, 1, 0}},
+        {{.chart = 1, .method = NUQSILLAY_NEAREST, .presence = last | NUQSILLAY_HAS_N320, .n = {1}, .acc = 1},
+         {0, 1, 2, 0, 0, 0, 0, 1, 0}},
+        {{.chart = 1, .method = NUQSILLAY_NEAREST, .presence = ONE_SPLIT, .acc = 0}, {0, 0, 0, 0, 0, 3, 0, 1, -30u}},
+        {{.chart = 1, .method = NUQSILLAY_NEAREST, .presence = all, .n = {1, 1, 1}, .acc = 1}, {0, 1, 1, 1, 0, 0, 0, 0, 40}},
+        {{.method = NUQSILLAY_IGNORE_ACCURACY}, {0, 6}},
+        {{.method = NUQSILLAY_IGNORE_ACCURACY, .classic = 1, .presence = NUQSILLAY_HAS_ACC, .acc = 0.5}, {0, 4}},
+        {{.method = NUQSILLAY_FAST, .presence = NUQSILLAY_HAS_ACC, .acc = 0.5}, {NUQSILLAY_OWN_WEIGHTS}},
+        {{.method = NUQSILLAY_CLOSEST, .presence = NUQSILLAY_HAS_ACC, .acc = 0.5}, {NUQSILLAY_OWN_WEIGHTS}},
+        {{.method = NUQSILLAY_FAST}, {NUQSILLAY_OWN_WEIGHTS}},
+        {{.method = NUQSILLAY_CLOSEST, .classic = 1}, {NUQSILLAY_OWN_WEIGHTS}},
+        {{.method = NUQSILLAY_FAST, .presence = over, .n = {1000001}, .acc = NAN}, {NUQSILLAY_OWN_WEIGHTS}},
+        {{.method = NUQSILLAY_CLOSEST, .presence = over, .acc = 2}, {NUQSILLAY_OWN_WEIGHTS}},
+        {{.chart = 3, .method = NUQSILLAY_FAST}, {6}},
+        {{.chart = 2, .method = NUQSILLAY_CLOSEST}, {7}},
+        {{.method = NUQSILLAY_FAST, .priority = 2}, {8}},
+        {{.method = NUQSILLAY_CLOSEST, .classic = 2}, {8}},
+        {{.method = NUQSILLAY_FAST, .zero = 1}, {9}},
+        {{.method = NUQSILLAY_CLOSEST, .misses = 1}, {9}},
+        {{.method = NUQSILLAY_IGNORE_ACCURACY, .presence = over, .n = {1000001}, .acc = NAN}, {10}},
+        {{.method = NUQSILLAY_NEAREST, .presence = over, .n = {1000001}, .acc = NAN}, {10}},
+        {{.method = NUQSILLAY_NEAREST, .presence = over, .n = {7}, .acc = NAN}, {11}},
+        {{.method = NUQSILLAY_NEAREST, .presence = NUQSILLAY_HAS_N320, .n = {7}}, {13}},
+        {{.method = NUQSILLAY_NEAREST, .presence = over, .n = {7}, .acc = 1}, {14}},
+        {{.method = NUQSILLAY_NEAREST, .presence = over, .n = {6}, .acc = 1}, {0, 6, 0, 0, 0, 0, 0, 1, 0}},
+    };
+    check_told(3, charts, own, rows, sizeof rows / sizeof *rows, "own weights");
+
+    /* Unequal ones do not fold in a classic row: of its five hits two are n320. Eight have 480 points at least. */
+    const struct told unequal[] = {
+        {{.method = NUQSILLAY_NEAREST, .classic = 1, .presence = last, .acc = 302.0 / 305}, {0, 2, 3, 0, 0, 0, 0, 1, 0}},
+        {{.method = NUQSILLAY_NEAREST, .presence = last, .acc = 302.0 / 488}, {0, 0, 8, 0, 0, 0, 0, 2, -178u}},
+    };
+    check_told(1, (const uint32_t[1][2]){{5, 3}}, (const uint32_t[5]){61, 60, 40, 20, 10}, unequal, 2, "unequal own weights");
+
+    /* n200 goes from 0 to 3: points 13 and 21, 15 and 23, 17 and 25, 19 and 27, of which 21 is the first that is 1 away from 20. */
+    const uint8_t between = NUQSILLAY_HAS_N300 | NUQSILLAY_HAS_N100 | NUQSILLAY_HAS_ACC;
+    const struct told first = {{.method = NUQSILLAY_NEAREST, .presence = between, .acc = 20.0 / 45}, {0, 2, 0, 0, 0, 3, 0, 8, -1u}};
+    check_told(1, (const uint32_t[1][2]){{5, 0}}, (const uint32_t[5]){9, 6, 3, 2, 1}, &first, 1, "first smallest distance");
+
+    /* The longest walk: two candidates in each of 99 * 99 * 99 settings. One point is wanted, and 200,000 hits have 200,000. */
+    const struct told longest = {{.method = NUQSILLAY_NEAREST, .presence = NUQSILLAY_HAS_ACC, .acc = 1 / 20e6},
+                                 {0, 0, 0, 0, 0, 200000, 0, 1940598, -199999u}};
+    check_told(1, (const uint32_t[1][2]){{100000, 100000}}, (const uint32_t[5]){100, 98, 3, 2, 1}, &longest, 1, "longest walk");
+}
+
+/* Sheets that 18 refuses, cut at every byte: a weights' count over 1 is told as soon as it is there, bad weights when all five are,
+ * whatever the query count says. */
+static void check_weights(void)
+{
+    const uint32_t charts[1][2] = {{4, 2}};
+    const uint32_t bad[][5] = {
+        {101, 60, 40, 20, 10}, {101, 101, 40, 20, 10}, {61, 60, 40, 20, 0},   {60, 61, 40, 20, 10}, {61, 60, 60, 20, 10},
+        {61, 60, 40, 40, 10},  {61, 60, 40, 20, 20},   {60, 60, 60, 20, 10},  {61, 60, 40, 20, 41}, {256 + 61, 60, 40, 20, 10},
+        {1, 2, 3, 4, 5},       {0, 0, 0, 0, 0},        {61, 60, 40, 20, -1u}, {61, 316, 40, 20, 10}};
+    const uint32_t counts[] = {2, 3, 255, 256, 65536, 1u << 31, UINT32_MAX};
+    const struct query q = {.method = NUQSILLAY_IGNORE_ACCURACY};
+    const size_t weights = COUNT + CHART + COUNT, queries = weights + WEIGHTS;
+
+    for (size_t i = 0; i < sizeof bad / sizeof *bad; i++)
+        for (uint32_t count = 1; count <= 1025; count += 1024) {
+            static struct sheet s;
+            s.len = 0;
+            put_charts(&s, 1, charts);
+            put_weights(&s, bad[i]);
+            put(&s, count, 4);
+            put_query(&s, &q);
+            for (size_t len = 0; len <= s.len; len++)
+                check_refused(&s, len, ANSWER, len < queries ? 1 : NUQSILLAY_BAD_WEIGHTS, "bad weights");
+        }
+
+    for (size_t i = 0; i < sizeof counts / sizeof *counts; i++) {
+        static struct sheet s;
+        s.len = 0;
+        put_charts(&s, 1, charts);
+        put(&s, counts[i], 4);
+        for (uint32_t weight = 5; weight > 0; weight--)
+            put(&s, weight, 4);
+        put(&s, 1, 4);
+        put_query(&s, &q);
+        for (size_t len = 0; len <= s.len; len++)
+            check_refused(&s, len, ANSWER, len < weights ? 1 : NUQSILLAY_BAD_WEIGHTS, "weights' count");
     }
-    check_sheet(&s, (const uint32_t (*)[FIELDS])answers, ROWS, "holds passed");
 }
 
 /* Each count at its limit and past it, with its records there or missing. */
@@ -258,28 +382,35 @@ static void check_limits(void)
 {
     static struct sheet s;
     put(&s, 0, 4);
+    put_weights(&s, NULL);
     put(&s, 0, 4);
     check_work(&s, s.len, 0, 0, s.bytes, 0, "empty sheet", 0);
     check_refused(&s, s.len + 1, 0, 4, "empty sheet");
 
     /* 1,024 queries of zero bytes: IgnoreAccuracy on the first chart with nothing given. */
     static struct sheet answers;
-    memset(&s, 0, sizeof s);
-    put(&s, 256, 4);
-    put(&s, 7, 4);
-    s.len = COUNT + 256 * CHART;
-    put(&s, 1024, 4);
     for (answers.len = 0; answers.len < 1024 * ANSWER; answers.len += ANSWER)
         answers.bytes[answers.len + 4] = 7;
-    check_work(&s, MOST, answers.len, 0, answers.bytes, answers.len, "full sheet", MOST);
-    check_refused(&s, MOST, answers.len - 1, 5, "full sheet");
-    check_refused(&s, MOST - 1, answers.len, 1, "full sheet");
-    check_refused(&s, MOST + 1, answers.len, 4, "full sheet");
 
-    s.len = COUNT + 256 * CHART;
-    put(&s, 1025, 4);
-    for (size_t len = s.len; len <= MOST + QUERY; len += QUERY)
-        check_refused(&s, len, 0, 3, "1,025 queries");
+    const uint32_t own[5] = {5, 4, 3, 2, 1};
+    for (int with = 0; with < 2; with++) {
+        const size_t full = with ? MOST : MOST - WEIGHTS;
+        memset(&s, 0, sizeof s);
+        put(&s, 256, 4);
+        put(&s, 7, 4);
+        s.len = COUNT + 256 * CHART;
+        put_weights(&s, with ? own : NULL);
+        put(&s, 1024, 4);
+        check_work(&s, full, answers.len, 0, answers.bytes, answers.len, "full sheet", full);
+        check_refused(&s, full, answers.len - 1, 5, "full sheet");
+        check_refused(&s, full - 1, answers.len, 1, "full sheet");
+        check_refused(&s, full + 1, answers.len, 4, "full sheet");
+
+        s.len -= COUNT;
+        put(&s, 1025, 4);
+        for (size_t len = s.len; len <= MOST + QUERY; len += QUERY)
+            check_refused(&s, len, 0, 3, "1,025 queries");
+    }
 
     s.len = 0;
     put(&s, 257, 4);
@@ -293,6 +424,8 @@ int main(void)
     check_left();
     check_statuses();
     check_holds();
+    check_own();
+    check_weights();
     check_limits();
 
     printf("sheets: %u checked, %u differ\n", checked, differ);

@@ -10,7 +10,7 @@ use lib.ListN.{length, drop, take}
 use lib.Seq.{sets, sets-eq, take-at}
 use Rattle.score_state.specs.Answer.{Answer, refused, worked, unless, statusOf, valuesOf}
 use Rattle.inspect.specs.declared.Query.{Query}
-use Rattle.generate_laws.specs.Generate.{generateAnswer}
+use Rattle.generate_laws.specs.Generate.{scoredAnswer}
 use Rattle.generate_laws.proofs.Refusals.{numbered}
 use Rattle.generate.specs.Generated.{generatedOf}
 use Rattle.generate.specs.declared.Generated.{Generated}
@@ -44,7 +44,7 @@ told-worked vs out h =
     let room : 0 + length vs ≤ length out = omega arith in
     ap worked (ap (take (length vs)) (sets-eq vs out 0 room) ∙ take-at vs (drop (0 + length vs) out) (length vs) refl)
 
--- what the direct call answers has no refusal by 0
-pub answer-numbered : (q : Query) (g : Generated) → generatedOf g ≡ generateAnswer q → Numbered g
-answer-numbered q (Counts c tried left) e = tt
-answer-numbered q (Refused n) e = numbered q n e
+-- what a query is answered has no refusal by 0
+pub answer-numbered : (ws : List ℕ) (q : Query) (g : Generated) → generatedOf g ≡ scoredAnswer ws q → Numbered g
+answer-numbered ws q (Counts c tried left) e = tt
+answer-numbered ws q (Refused n) e = numbered ws q n e

@@ -2,8 +2,10 @@
 ghost use mathlib.Core.Path.{_≡_};
 ghost use Prim.Native.Nat.{_≤_};
 ghost use lib.ListN.{length, take};
+ghost use Rattle.score_state.specs.Points.{weightsOf};
 ghost use Rattle.inspect.specs.Presence.{has};
-ghost use Rattle.generate_laws.specs.Generate.{generateAnswer};
+ghost use Rattle.nearest_laws.specs.Nearest.{Weighting};
+ghost use Rattle.generate_laws.specs.Generate.{scoredAnswer, generateAnswer};
 ghost use Rattle.generate.specs.Generated.{generatedOf};
 ghost use Rattle.direct.specs.Direct.{Numbered, sixCounts, lent, handed, answerIn, accBy, holdsBy, queryBy};
 use generate::Generated;
@@ -11,6 +13,7 @@ use inspect::Accuracy;
 use inspect::Chart;
 use inspect::Holds;
 use inspect::Query;
+use score_state::Weights;
 
 // The accuracy where its bit of presence is set.
 fn acc_of(presence: u8, acc: f64) -> Accuracy
@@ -57,8 +60,10 @@ fn hand(g: Generated, out: &mut [u32]) -> u32
     }
 }
 
-// 0 with the five counts, misses, tried and the bits of left in out, or the number that refuses: 5 where out has no room for them.
-pub fn generate(
+// 0 with the five counts, misses, tried and the bits of left in out, or the number that refuses: 5 where out has no room for them. Under
+// these weights, for a sheet's rows (document 02, L4).
+pub fn scored(
+    weights: Weights,
     objects: u32,
     holds: u32,
     method: u8,
@@ -77,8 +82,9 @@ pub fn generate(
     acc: f64,
     out: &mut [u32],
 ) -> u32
-    ensures { λ r. ⌜ lent r (now (out .exit)) ≡ handed 8 (generateAnswer (queryBy objects holds method priority classic presence (sixCounts n320 n300 n200 n100 n50 misses) passed «holds_given» «holds_passed» acc)) (now (out .entry)) ⌝ }
-    ensures { λ r. ⌜ (8 ≤ length (now (out .entry)) → answerIn r (take 8 (now (out .exit))) ≡ generateAnswer (queryBy objects holds method priority classic presence (sixCounts n320 n300 n200 n100 n50 misses) passed «holds_given» «holds_passed» acc)) ⌝ }
+    requires { ⌜ Weighting (weightsOf weights) ⌝ }
+    ensures { λ r. ⌜ lent r (now (out .exit)) ≡ handed 8 (scoredAnswer (weightsOf weights) (queryBy objects holds method priority classic presence (sixCounts n320 n300 n200 n100 n50 misses) passed «holds_given» «holds_passed» acc)) (now (out .entry)) ⌝ }
+    ensures { λ r. ⌜ (8 ≤ length (now (out .entry)) → answerIn r (take 8 (now (out .exit))) ≡ scoredAnswer (weightsOf weights) (queryBy objects holds method priority classic presence (sixCounts n320 n300 n200 n100 n50 misses) passed «holds_given» «holds_passed» acc)) ⌝ }
 {
     if out.len() < 8 {
         return 5;
@@ -104,5 +110,49 @@ pub fn generate(
         holds: reached,
         acc: accuracy,
     };
-    hand(generate::generate(q), out)
+    hand(generate::scored_by(q, method, weights), out)
+}
+
+// The same under the standard weights, which a direct call keeps.
+pub fn generate(
+    objects: u32,
+    holds: u32,
+    method: u8,
+    priority: u8,
+    classic: bool,
+    presence: u8,
+    n320: u32,
+    n300: u32,
+    n200: u32,
+    n100: u32,
+    n50: u32,
+    misses: u32,
+    passed: u32,
+    holds_given: u8,
+    holds_passed: u32,
+    acc: f64,
+    out: &mut [u32],
+) -> u32
+    ensures { λ r. ⌜ lent r (now (out .exit)) ≡ handed 8 (generateAnswer (queryBy objects holds method priority classic presence (sixCounts n320 n300 n200 n100 n50 misses) passed «holds_given» «holds_passed» acc)) (now (out .entry)) ⌝ }
+{
+    scored(
+        score_state::standard_weights(classic),
+        objects,
+        holds,
+        method,
+        priority,
+        classic,
+        presence,
+        n320,
+        n300,
+        n200,
+        n100,
+        n50,
+        misses,
+        passed,
+        holds_given,
+        holds_passed,
+        acc,
+        out,
+    )
 }

@@ -1,14 +1,17 @@
 // The trait `HitResultGenerator`, recast: a call for each of the four generators, and the direct call, which takes the method as a
-// number. No call asks anything of its caller: each refuses by 7, 8, 10 and 11 in that order, then by its method's own numbers.
+// number. No such call asks anything of its caller: each refuses by 7, 8, 10 and 11 in that order, then by its method's own numbers.
+// They have the standard weights; `scored_by`, for a sheet's rows, takes any (document 02, L4).
 ghost use mathlib.Core.Path.{_≡_};
 ghost use Prim.Native.Nat.{_<_};
 ghost use mathlib.Core.Option.{some};
 ghost use lib.Dec.{T};
 ghost use lib.Ieee as Ieee;
 ghost use Rattle.rounding.specs.Round.{zero64, one64};
+ghost use Rattle.score_state.specs.Points.{weightsOf};
 ghost use Rattle.inspect.specs.Inspect.{inspectOf, accOf};
 ghost use Rattle.inspect.specs.Checks.{Domain};
-ghost use Rattle.generate_laws.specs.Generate.{untried, nearestOf, byMethod, answerBy, generateAnswer};
+ghost use Rattle.nearest_laws.specs.Nearest.{Weighting};
+ghost use Rattle.generate_laws.specs.Generate.{untried, nearestOf, byMethod, scoredBy, answerBy, generateAnswer};
 ghost use Rattle.closest_f64.specs.Rust.{closestAtF64};
 ghost use Rattle.generate.specs.Generated.{generatedOf};
 ghost use Rattle.generate.specs.Code.{ignoresAcc};
@@ -18,6 +21,7 @@ use inspect::Query;
 use nearest::Five;
 use nearest::Outcome;
 use score_state::HitResults;
+use score_state::Weights;
 use units::Hits;
 
 // The six counts with tried and left, or the number that refuses and nothing else. left is T minus points for method 3, and 0 for the
@@ -39,18 +43,17 @@ fn closest_counts(q: Query, acc: f64) -> Generated
     }
 }
 
-// Nearest at a given accuracy.
-fn nearest_counts(q: Query, acc: f64) -> Generated
+// Nearest at a given accuracy, under these weights; that of n320 is w.
+fn nearest_counts(q: Query, acc: f64, weights: Weights) -> Generated
     requires { ⌜ Domain q ⌝ }
     requires { ⌜ T (Ieee.le zero64 acc) ⌝ ∗ ⌜ T (Ieee.le acc one64) ⌝ }
-    ensures { λ r. ⌜ generatedOf r ≡ nearestOf (inspectOf q) (some acc) ⌝ }
+    requires { ⌜ Weighting (weightsOf weights) ⌝ }
+    ensures { λ r. ⌜ generatedOf r ≡ nearestOf (weightsOf weights) (inspectOf q) (some acc) ⌝ }
 {
     let total = inspect::total_hits(q);
     let missed = inspect::misses(q);
     let remain = inspect::remain(q);
-    let w = score_state::perfect_weight(q.classic);
-    let target = inspect::target_of(acc, w, total);
-    let weights = score_state::standard_weights(q.classic);
+    let target = inspect::target_of(acc, weights.n320, total);
     let given = Five {
         n320: Hits(q.n320),
         n300: Hits(q.n300),
@@ -77,16 +80,17 @@ fn nearest_counts(q: Query, acc: f64) -> Generated
 }
 
 // Methods 1 to 3 at the query's accuracy.
-fn at_acc(q: Query, method: u8, acc: f64) -> Generated
+fn at_acc(q: Query, method: u8, acc: f64, weights: Weights) -> Generated
     requires { ⌜ Domain q ⌝ }
     requires { ⌜ T (Ieee.le zero64 acc) ⌝ ∗ ⌜ T (Ieee.le acc one64) ⌝ }
     requires { ⌜ (0 < method) × ((inspectOf q) .acc ≡ some acc) ⌝ }
-    ensures { λ r. ⌜ generatedOf r ≡ byMethod method (inspectOf q) ⌝ }
+    requires { ⌜ Weighting (weightsOf weights) ⌝ }
+    ensures { λ r. ⌜ generatedOf r ≡ byMethod (weightsOf weights) method (inspectOf q) ⌝ }
 {
     match method {
         1 => Generated::Counts(fast::generate_hitresults(q, acc), 0, 0),
         2 => closest_counts(q, acc),
-        _ => nearest_counts(q, acc),
+        _ => nearest_counts(q, acc, weights),
     }
 }
 
@@ -100,10 +104,11 @@ fn ignores_acc(method: u8, acc: Accuracy) -> bool
     }
 }
 
-// The checks that every method shares, then a method, whatever the query's own. Each generator is called in one place: so the
-// compiler builds them into one function, in which the query is never copied.
-fn by_method(q: Query, method: u8) -> Generated
-    ensures { λ r. ⌜ generatedOf r ≡ answerBy method q ⌝ }
+// The checks that every method shares, then a method, whatever the query's own, under these weights, at which Nearest alone looks. Each
+// generator is called in one place: so the compiler builds them into one function, in which the query is never copied.
+pub fn scored_by(q: Query, method: u8, weights: Weights) -> Generated
+    requires { ⌜ Weighting (weightsOf weights) ⌝ }
+    ensures { λ r. ⌜ generatedOf r ≡ scoredBy (weightsOf weights) method q ⌝ }
 {
     let stop = inspect::stop_of(q);
     if stop > 0 {
@@ -114,9 +119,16 @@ fn by_method(q: Query, method: u8) -> Generated
         return Generated::Counts(ignore_acc::generate_hitresults(q), 0, 0);
     }
     match a {
-        Accuracy::Given(acc) => at_acc(q, method, acc),
+        Accuracy::Given(acc) => at_acc(q, method, acc, weights),
         Accuracy::Absent => Generated::Refused(13),
     }
+}
+
+// A method under the standard weights.
+fn by_method(q: Query, method: u8) -> Generated
+    ensures { λ r. ⌜ generatedOf r ≡ answerBy method q ⌝ }
+{
+    scored_by(q, method, score_state::standard_weights(q.classic))
 }
 
 // Method 0, IgnoreAccuracy.

@@ -17,7 +17,7 @@ use Rattle.ignore_acc.specs.IgnoreAcc.{bestCase, worstCase, ignoreAcc}
 use Rattle.fast.specs.Fast.{prelim, oneMissing, upgrades, leftPlace, addLeft, threeOrFewer, provide, withAcc, byAcc, fast}
 use Rattle.closest_f64.specs.Rust.{argsOf, closestAtF64}
 use Rattle.nearest_laws.specs.Nearest.{Found, nearest}
-use Rattle.generate_laws.specs.Generate.{counted, closestOf, targetOf, foundOf, nearestOf, byMethod, answerBy, generateAnswer}
+use Rattle.generate_laws.specs.Generate.{counted, closestOf, targetOf, foundOf, nearestOf, byMethod, scoredBy, answerBy, generateAnswer}
 use Rattle.generate_laws.specs.Reached.{reachedChart, onReached}
 
 -- ---- what the generators see: they take the hold notes by the total hits alone
@@ -40,36 +40,40 @@ unfolding closestOf closestAtF64 argsOf shortened totalHits misses remain
 closest-alike q none = ap counted (ignore-alike q)
 closest-alike q (some acc) = refl
 
-found-alike : (q : Query) (acc : Float) (f : Option Found) → foundOf (inspectOf q) acc f ≡ foundOf (inspectOf (onReached q)) acc f
+found-alike : (ws : List ℕ) (q : Query) (acc : Float) (f : Option Found) → foundOf ws (inspectOf q) acc f ≡ foundOf ws (inspectOf (onReached q)) acc f
 unfolding foundOf shortened totalHits misses
-found-alike q acc none = refl
-found-alike q acc (some f) = refl
+found-alike ws q acc none = refl
+found-alike ws q acc (some f) = refl
 
-nearest-alike : (q : Query) (o : Option Float) → nearestOf (inspectOf q) o ≡ nearestOf (inspectOf (onReached q)) o
+nearest-alike : (ws : List ℕ) (q : Query) (o : Option Float) → nearestOf ws (inspectOf q) o ≡ nearestOf ws (inspectOf (onReached q)) o
 unfolding nearestOf shortened totalHits misses remain
-nearest-alike q none = refl
-nearest-alike q (some acc) =
+nearest-alike ws q none = refl
+nearest-alike ws q (some acc) =
     let i = inspectOf q in
-    found-alike q acc (nearest (standard (i .classic)) (givens i) (targetOf i acc) (remain i))
+    found-alike ws q acc (nearest ws (givens i) (targetOf ws i acc) (remain i))
 
-method-alike : (m : ℕ) (q : Query) → byMethod m (inspectOf q) ≡ byMethod m (inspectOf (onReached q))
+method-alike : (ws : List ℕ) (m : ℕ) (q : Query) → byMethod ws m (inspectOf q) ≡ byMethod ws m (inspectOf (onReached q))
 unfolding byMethod fast
-method-alike zero q = ap counted (ignore-alike q)
-method-alike (suc zero) q = ap counted (fast-alike q ((inspectOf q) .acc))
-method-alike (suc (suc zero)) q = closest-alike q ((inspectOf q) .acc)
-method-alike (suc (suc (suc n))) q = nearest-alike q ((inspectOf q) .acc)
+method-alike ws zero q = ap counted (ignore-alike q)
+method-alike ws (suc zero) q = ap counted (fast-alike q ((inspectOf q) .acc))
+method-alike ws (suc (suc zero)) q = closest-alike q ((inspectOf q) .acc)
+method-alike ws (suc (suc (suc n))) q = nearest-alike ws q ((inspectOf q) .acc)
 
 -- ---- the checks
 stop-alike : (q : Query) → chartOver (q .chart) ≡ false → stopOf q ≡ stopOf (onReached q)
 unfolding stopOf countOver
 stop-alike q e = rw (e, chart-within (q .chart) (reachedChart q .«n_hold_notes») (shortened-le (holdsOf (q .holds)) (q .chart .«n_hold_notes»)) e)
 
--- ---- the law, by every method: check 7 alone is asked of the chart's own hold notes
+-- ---- the law, by every method and under any weights: check 7 alone is asked of the chart's own hold notes
+pub reached-scored : (ws : List ℕ) (m : ℕ) (q : Query) → chartOver (q .chart) ≡ false → scoredBy ws m q ≡ scoredBy ws m (onReached q)
+unfolding scoredBy
+reached-scored ws m q e =
+    ap (λ (n : ℕ). unless (eqb n 0) n (byMethod ws m (inspectOf q))) (stop-alike q e)
+    ∙ ap (λ (a : Answer (List ℕ)). unless (eqb (stopOf (onReached q)) 0) (stopOf (onReached q)) a) (method-alike ws m q)
+
 pub reached-by : (m : ℕ) (q : Query) → chartOver (q .chart) ≡ false → answerBy m q ≡ answerBy m (onReached q)
 unfolding answerBy
-reached-by m q e =
-    ap (λ (n : ℕ). unless (eqb n 0) n (byMethod m (inspectOf q))) (stop-alike q e)
-    ∙ ap (λ (a : Answer (List ℕ)). unless (eqb (stopOf (onReached q)) 0) (stopOf (onReached q)) a) (method-alike m q)
+reached-by m q = reached-scored (standard (q .classic)) m q
 
 pub reached-alike : (q : Query) → chartOver (q .chart) ≡ false → generateAnswer q ≡ generateAnswer (onReached q)
 unfolding generateAnswer

@@ -5,10 +5,10 @@ use mathlib.Core.Bool.{false}
 use mathlib.Core.List.{List}
 use mathlib.Core.Option.{Option}
 use lib.Ieee.{Float}
-use Rattle.score_state.specs.Points.{points, standard}
+use Rattle.score_state.specs.Points.{points}
 use Rattle.score_state.specs.Answer.{Answer}
 use Rattle.inspect.specs.Inspect.{Inspect, givens, totalHits, misses, remain}
-use Rattle.nearest_laws.specs.Nearest.{stops, standard-weighting}
+use Rattle.nearest_laws.specs.Nearest.{Weighting, stops}
 use Rattle.nearest_laws.proofs.Rising.{rising}
 use Rattle.generate_laws.specs.Generate.{targetOf}
 use Rattle.generate_laws.specs.Method3.{fiveOf, missesOf, walkOf, IsNearest}
@@ -33,21 +33,21 @@ withAccuracy o i =
       acc = o;
     }
 
--- what the request says of the answers a and b to the queries i and k, whose accuracies are x and y
-pub record RisingAnswers (i k : Inspect) (x y : Float) (a b : Answer (List ℕ)) : Type 0 where
-  pub raised : targetOf i x ≤ targetOf k y → points (standard (i .classic)) (fiveOf a) ≤ points (standard (k .classic)) (fiveOf b)
-  pub same : targetOf i x ≡ targetOf k y → (fiveOf a ≡ fiveOf b) × (missesOf a ≡ missesOf b)
+-- what the request says of the answers a and b to the queries i and k, whose accuracies are x and y, "under the same weights"
+pub record RisingAnswers (ws : List ℕ) (i k : Inspect) (x y : Float) (a b : Answer (List ℕ)) : Type 0 where
+  pub raised : targetOf ws i x ≤ targetOf ws k y → points ws (fiveOf a) ≤ points ws (fiveOf b)
+  pub same : targetOf ws i x ≡ targetOf ws k y → (fiveOf a ≡ fiveOf b) × (missesOf a ≡ missesOf b)
 
 pub rising-answers
-    : (i : Inspect) (o : Option Float) (x y : Float) (a b : Answer (List ℕ)) → stops (givens i) (remain i) ≡ false
-    → IsNearest i x a → IsNearest (withAccuracy o i) y b → RisingAnswers i (withAccuracy o i) x y a b
+    : (ws : List ℕ) (most : ℕ) (i : Inspect) (o : Option Float) (x y : Float) (a b : Answer (List ℕ)) → Weighting ws → stops (givens i) (remain i) ≡ false
+    → IsNearest ws most i x a → IsNearest ws most (withAccuracy o i) y b → RisingAnswers ws i (withAccuracy o i) x y a b
 unfolding totalHits misses remain
-rising-answers i o x y a b s n m =
-    let law = rising (standard (i .classic)) (givens i) (remain i) (standard-weighting (i .classic)) refl in
-    let f = walked-is i x s in
-    let g = walked-is i y s in
+rising-answers ws most i o x y a b w s n m =
+    let law = rising ws (givens i) (remain i) w refl in
+    let f = walked-is ws i x s in
+    let g = walked-is ws i y s in
     record {
-      raised = λ t. rw (n .counts, m .counts) (law .raised (targetOf i x) (targetOf i y) (walkOf i x) (walkOf i y) f g t);
+      raised = λ t. rw (n .counts, m .counts) (law .raised (targetOf ws i x) (targetOf ws i y) (walkOf ws i x) (walkOf ws i y) f g t);
       same = λ t.
-          (n .counts ∙ law .same (targetOf i x) (targetOf i y) (walkOf i x) (walkOf i y) f g t ∙ sym (m .counts), n .capped ∙ sym (m .capped));
+          (n .counts ∙ law .same (targetOf ws i x) (targetOf ws i y) (walkOf ws i x) (walkOf ws i y) f g t ∙ sym (m .counts), n .capped ∙ sym (m .capped));
     }

@@ -2,7 +2,6 @@
 use Prim.Native.Nat.{ℕ, suc, _+_, _-_, _*_, _≤_}
 use mathlib.Core.List.{List, [], _∷_}
 use mathlib.Core.Option.{Option}
-use mathlib.Core.Path.{_≡_}
 use native.Mathlib.Nat.{mul-le-mul-right, mul-add}
 use native.Mathlib.Omega.{arith}
 use Rattle.units.specs.Limits.{most32, mostWeight}
@@ -15,6 +14,7 @@ use Rattle.score_state.specs.declared.Weights.{Weights}
 use Rattle.inspect.specs.Presence.{has, givensOf, unwrapOrZero}
 use Rattle.nearest_laws.specs.Walk.{Falling}
 use Rattle.nearest_laws.proofs.Nearest.{weighting-falls}
+use Rattle.nearest_laws.proofs.Weighs.{weighting-light}
 use Rattle.plan.specs.Planned.{foldedOf}
 use Rattle.nearest.specs.Outcome.{Ask}
 use Rattle.nearest.specs.declared.Five.{Five}
@@ -49,20 +49,7 @@ module _ {w : Weights} {p : ℕ} {g : Five} {remain : Hits} (a : Ask w p g remai
       }
 
   pub light : Light w
-  light =
-      let h = a .weighting in
-      let e1 : w .n320 ≡ h .n320 = cc (h .five) in
-      let e2 : w .n300 ≡ h .n300 = cc (h .five) in
-      let e3 : w .n200 ≡ h .n200 = cc (h .five) in
-      let e4 : w .n100 ≡ h .n100 = cc (h .five) in
-      let e5 : w .n50 ≡ h .n50 = cc (h .five) in
-      record {
-        n320 = omega (arith, h .most);
-        n300 = omega (arith, h .most, h .perfect);
-        n200 = omega (arith, h .most, h .perfect, h .great);
-        n100 = omega (arith, h .most, h .perfect, h .great, h .good);
-        n50 = omega (arith, h .most, h .perfect, h .great, h .good, h .ok);
-      }
+  light = weighting-light w (a .weighting)
 
   -- the missing weights after step 1 fall, and all points fit
   pub falls : Falling (suc mostWeight) (missing (weightsOf w) (givensOf (foldedOf w p) (unwrapOrZero p (sixOf g))))

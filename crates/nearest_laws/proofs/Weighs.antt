@@ -1,11 +1,14 @@
--- The test of a weighting tells exactly the weightings.
+-- The test of a weighting tells exactly the weightings; no weight of one is over 100.
 use Prim.Native.Nat.{ℕ}
 use mathlib.Core.Path.{_≡_, refl, sym}
 use mathlib.Core.Bool.{true, _&&_, true≢false}
 use mathlib.Core.List.{List, [], _∷_}
 use mathlib.Core.Logic.{_↔_}
 use lib.Dec.{ltb, leb}
+use native.Mathlib.Omega.{arith}
 use borrow.Author.Tests.{ltb-true, leb-true, lt-ltb, le-leb}
+use Rattle.score_state.specs.Points.{weightsOf, Light}
+use Rattle.score_state.specs.declared.Weights.{Weights}
 use Rattle.nearest_laws.specs.Nearest.{Weighting, weighs}
 use Rattle.nearest_laws.proofs.Near.{both-true}
 use Rattle.nearest_laws.proofs.Nearest.{and-true}
@@ -55,3 +58,18 @@ weighting (a ∷ (b ∷ (c ∷ (d ∷ (e ∷ (f ∷ ws)))))) h = absurd (true≢
 
 pub weighs-right : (ws : List ℕ) → (weighs ws ≡ true) ↔ Weighting ws
 weighs-right ws = (weighting ws, weighed ws)
+
+pub weighting-light : (w : Weights) → Weighting (weightsOf w) → Light w
+weighting-light w h =
+    let e1 : w .n320 ≡ h .n320 = cc (h .five) in
+    let e2 : w .n300 ≡ h .n300 = cc (h .five) in
+    let e3 : w .n200 ≡ h .n200 = cc (h .five) in
+    let e4 : w .n100 ≡ h .n100 = cc (h .five) in
+    let e5 : w .n50 ≡ h .n50 = cc (h .five) in
+    record {
+      n320 = omega (arith, h .most);
+      n300 = omega (arith, h .most, h .perfect);
+      n200 = omega (arith, h .most, h .perfect, h .great);
+      n100 = omega (arith, h .most, h .perfect, h .great, h .good);
+      n50 = omega (arith, h .most, h .perfect, h .great, h .good, h .ok);
+    }

@@ -11,7 +11,7 @@ use Rattle.score_state.specs.Points.{standard}
 use Rattle.score_state.specs.Given.{missing, givenHits, givenPoints, fill}
 use Rattle.nearest_laws.specs.Walk.{walk}
 
--- The weights that the walk is proved for. Nearest takes any such; the league's are the two standard ones.
+-- The weights that the walk is proved for: the two standard weightings, and a league's own (document 02, L4).
 pub record Weighting (ws : List ℕ) : Type 0 where
   pub n320 : ℕ
   pub n300 : ℕ
@@ -42,8 +42,9 @@ weighs (a ∷ (b ∷ (c ∷ (d ∷ [])))) = false
 weighs (a ∷ (b ∷ (c ∷ (d ∷ (e ∷ []))))) = leb a 100 && leb b a && ltb c b && ltb d c && ltb e d && leb 1 e
 weighs (a ∷ (b ∷ (c ∷ (d ∷ (e ∷ (f ∷ ws)))))) = false
 
--- Step 1: "If classic with n320 and n300 both missing, n300 is 0 and counts as given. Priority plays no part." Classic is the
--- weighting whose first two weights are equal.
+-- Step 1: "If classic with n320 and n300 both missing, n300 is 0 and counts as given. Priority plays no part." Of the standard
+-- weightings classic is the one whose first two weights are equal; of own weights document 02, L4, says: "The first two may be equal, and
+-- if both are missing they fold as the classic pair did".
 unfoldable pub fold : List ℕ → List (Option ℕ) → List (Option ℕ)
 fold [] gs = gs
 fold (w ∷ []) gs = gs

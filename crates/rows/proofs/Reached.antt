@@ -12,9 +12,11 @@ use Rattle.inspect.specs.Checks.{chartOver}
 use Rattle.inspect.proofs.Checked.{chart-within}
 use Rattle.inspect.specs.declared.Chart.{Chart}
 use Rattle.inspect.specs.declared.Holds.the-variants.{InFull}
-use Rattle.generate_laws.specs.Generate.{generateAnswer}
+use Rattle.weighting.specs.Scoring.{weightsBy}
+use Rattle.weighting.specs.declared.Scoring.{Scoring}
+use Rattle.generate_laws.specs.Generate.{scoredAnswer}
 use Rattle.generate_laws.specs.Reached.{onReached}
-use Rattle.generate_laws.proofs.Reached.{reached-alike}
+use Rattle.generate_laws.proofs.Reached.{reached-scored}
 use Rattle.records.specs.declared.Row.{Row}
 use Rattle.rows.specs.Rows.{holdsLeft, fieldsLeft, unknownRow, rowStop, queryOf, foundAnswer}
 use Rattle.rows.specs.Reached.{reachedOf, inFull}
@@ -23,17 +25,22 @@ pub row-in-full : (row : Row) (chart : Chart) → row .«holds_given» ≡ 0 →
 unfolding queryOf
 row-in-full row chart h = rw h
 
-module _ (row : Row) (chart : Chart) (h : row .«holds_given» ≡ 1) where
+module _ (sc : Scoring) (row : Row) (chart : Chart) (h : row .«holds_given» ≡ 1) where
   query-reached : onReached (queryOf row chart) ≡ queryOf (inFull row) (reachedOf row chart)
   unfolding queryOf shortened
   query-reached = rw h
 
-  pub row-reached : chartOver chart ≡ false → foundAnswer row chart ≡ foundAnswer (inFull row) (reachedOf row chart)
+  pub row-reached : chartOver chart ≡ false → foundAnswer sc row chart ≡ foundAnswer sc (inFull row) (reachedOf row chart)
   unfolding foundAnswer rowStop unknownRow fieldsLeft holdsLeft
   row-reached e =
-      ap (λ (n : ℕ). unless (eqb n 0) n (generateAnswer (queryOf row chart))) stops
-      ∙ ap (λ (a : Answer (List ℕ)). unless (eqb (rowStop (inFull row) (reachedOf row chart)) 0) (rowStop (inFull row) (reachedOf row chart)) a)
-      (reached-alike (queryOf row chart) (unfold queryOf in e) ∙ ap generateAnswer query-reached)
+      ap (λ (n : ℕ). unless (eqb n 0) n (scoredAnswer ws (queryOf row chart))) stops
+      ∙ ap (λ (a : Answer (List ℕ)). unless (eqb (rowStop sc (inFull row) (reachedOf row chart)) 0) (rowStop sc (inFull row) (reachedOf row chart)) a) answers
     where
-      stops : rowStop row chart ≡ rowStop (inFull row) (reachedOf row chart)
+      ws : List ℕ
+      ws = weightsBy sc (eqb (row .classic) 1)
+
+      stops : rowStop sc row chart ≡ rowStop sc (inFull row) (reachedOf row chart)
       stops = rw (e, chart-within chart (min (row .«holds_passed») (chart .«n_hold_notes»)) (omega arith) e, h)
+
+      answers : scoredAnswer ws (queryOf row chart) ≡ scoredAnswer ws (queryOf (inFull row) (reachedOf row chart))
+      answers = reached-scored ws (queryOf row chart .method) (queryOf row chart) (unfold queryOf in e) ∙ ap (scoredAnswer ws) query-reached

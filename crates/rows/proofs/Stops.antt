@@ -4,39 +4,45 @@ use mathlib.Core.Path.{_≡_, ap, sym, _∙_}
 use mathlib.Core.List.{List}
 use Prim.Native.Nat.{ℕ, _≤_, _<_}
 use native.Mathlib.Omega.{arith}
+use lib.Dec.{eqb}
 use lib.ListN.{length, take, getD}
 use lib.Seq.{length-take-le, getD-take}
 use borrow.Author.Tests.{eq-eqb, ne-eqb, lt-ltb, le-ltb}
 use Rattle.score_state.specs.Answer.{refused}
 use Rattle.inspect.specs.declared.Chart.{Chart}
 use Rattle.inspect.specs.declared.Query.{Query}
-use Rattle.generate_laws.specs.Generate.{generateAnswer}
+use Rattle.weighting.specs.Scoring.{weightsBy}
+use Rattle.weighting.specs.declared.Scoring.{Scoring}
+use Rattle.generate_laws.specs.Generate.{scoredAnswer}
 use Rattle.records.specs.declared.Row.{Row}
 use Rattle.charts.specs.Charts.{noChart}
 use Rattle.rows.specs.Rows.{rowStop, queryOf, foundAnswer, rowAnswer}
 
--- ---- a row whose chart is found
-pub found-stopped : (row : Row) (chart : Chart) (n : ℕ) → n ≡ rowStop row chart → 0 < n → refused n ≡ foundAnswer row chart
-unfolding foundAnswer
-found-stopped row chart n e h = rw (← e, ne-eqb n 0 (λ (z : n ≡ 0). omega arith))
+module _ (sc : Scoring) where
+  -- ---- a row whose chart is found
+  pub found-stopped : (row : Row) (chart : Chart) (n : ℕ) → n ≡ rowStop sc row chart → 0 < n → refused n ≡ foundAnswer sc row chart
+  unfolding foundAnswer
+  found-stopped row chart n e h = rw (← e, ne-eqb n 0 (λ (z : n ≡ 0). omega arith))
 
-pub found-worked : (row : Row) (chart : Chart) (q : Query) (n : ℕ) → n ≡ rowStop row chart → n ≤ 0 → q ≡ queryOf row chart → generateAnswer q ≡ foundAnswer row chart
-unfolding foundAnswer
-found-worked row chart q n e h eq = let z : n ≡ 0 = omega arith in rw (eq, eq-eqb (rowStop row chart) 0 (sym e ∙ z))
+  pub found-worked
+      : (row : Row) (chart : Chart) (ws : List ℕ) (q : Query) (n : ℕ) → n ≡ rowStop sc row chart → n ≤ 0 → ws ≡ weightsBy sc (eqb (row .classic) 1) → q ≡ queryOf row chart
+      → scoredAnswer ws q ≡ foundAnswer sc row chart
+  unfolding foundAnswer
+  found-worked row chart ws q n e h ew eq = let z : n ≡ 0 = omega arith in rw (ew, eq, eq-eqb (rowStop sc row chart) 0 (sym e ∙ z))
 
--- ---- a row of a sheet with these charts
-pub no-chart : (row : Row) (charts : List Chart) → length charts ≤ row .chart → rowAnswer row charts ≡ refused 6
-unfolding rowAnswer
-no-chart row charts k = rw (le-ltb (row .chart) (length charts) k)
+  -- ---- a row of a sheet with these charts
+  pub no-chart : (row : Row) (charts : List Chart) → length charts ≤ row .chart → rowAnswer sc row charts ≡ refused 6
+  unfolding rowAnswer
+  no-chart row charts k = rw (le-ltb (row .chart) (length charts) k)
 
-pub with-chart : (row : Row) (charts : List Chart) → row .chart < length charts → rowAnswer row charts ≡ foundAnswer row (getD charts (row .chart) noChart)
-unfolding rowAnswer
-with-chart row charts k = rw (lt-ltb (row .chart) (length charts) k)
+  pub with-chart : (row : Row) (charts : List Chart) → row .chart < length charts → rowAnswer sc row charts ≡ foundAnswer sc row (getD charts (row .chart) noChart)
+  unfolding rowAnswer
+  with-chart row charts k = rw (lt-ltb (row .chart) (length charts) k)
 
--- the same where the charts are the first n of an array
-pub row-stopped : (row : Row) (charts : List Chart) (n : ℕ) → n ≤ length charts → n ≤ row .chart → refused 6 ≡ rowAnswer row (take n charts)
-row-stopped row charts n h k = sym (no-chart row (take n charts) (rw (length-take-le n charts h) k))
+  -- the same where the charts are the first n of an array
+  pub row-stopped : (row : Row) (charts : List Chart) (n : ℕ) → n ≤ length charts → n ≤ row .chart → refused 6 ≡ rowAnswer sc row (take n charts)
+  row-stopped row charts n h k = sym (no-chart row (take n charts) (rw (length-take-le n charts h) k))
 
-pub row-found : (row : Row) (charts : List Chart) (n : ℕ) → n ≤ length charts → row .chart < n → foundAnswer row (getD charts (row .chart) noChart) ≡ rowAnswer row (take n charts)
-row-found row charts n h k =
-    ap (foundAnswer row) (sym (getD-take n charts (row .chart) noChart k)) ∙ sym (with-chart row (take n charts) (rw (length-take-le n charts h) k))
+  pub row-found : (row : Row) (charts : List Chart) (n : ℕ) → n ≤ length charts → row .chart < n → foundAnswer sc row (getD charts (row .chart) noChart) ≡ rowAnswer sc row (take n charts)
+  row-found row charts n h k =
+      ap (foundAnswer sc row) (sym (getD-take n charts (row .chart) noChart k)) ∙ sym (with-chart row (take n charts) (rw (length-take-le n charts h) k))

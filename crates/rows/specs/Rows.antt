@@ -2,9 +2,9 @@
 -- 8 "unknown method, priority or classic", row 9 "a missing field .. holds a nonzero byte", in this order; and Records: "5: presence u8,
 -- bits 0 to 7 for n320, n300, n200, n100, n50, misses, acc, passed", "The accuracy is either given with its f64 or absent". Document 02,
 -- L2: "byte 6 may be 1, and then a u32 at 44 says how many holds were passed", "With byte 6 at 0 the last field must be zero", "A nonzero
--- last field there, a byte 6 above 1 or a nonzero byte 7 is 9."
+-- last field there, a byte 6 above 1 or a nonzero byte 7 is 9."; L4: "19 row: method 1 or 2 with own weights, after 9".
 use mathlib.Core.List.{List}
-use mathlib.Core.Bool.{Bool, not, cond, _&&_, _||_}
+use mathlib.Core.Bool.{Bool, false, not, cond, _&&_, _||_}
 use Prim.Native.Nat.{ℕ}
 use lib.Dec.{eqb, ltb}
 use lib.Ieee.{binary64, ofBits}
@@ -14,7 +14,10 @@ use Rattle.inspect.specs.Checks.{chartOver}
 use Rattle.score_state.specs.Answer.{Answer, unless}
 use Rattle.inspect.specs.declared.Chart.{Chart}
 use Rattle.inspect.specs.declared.Query.{Query}
-use Rattle.generate_laws.specs.Generate.{generateAnswer}
+use Rattle.weighting.specs.Scoring.{weightsBy}
+use Rattle.weighting.specs.declared.Scoring.{Scoring}
+use Rattle.weighting.specs.declared.Scoring.the-variants.{Standard, Own}
+use Rattle.generate_laws.specs.Generate.{scoredAnswer}
 use Rattle.direct.specs.Direct.{accBy, holdsBy}
 use Rattle.records.specs.declared.Row.{Row}
 use Rattle.charts.specs.Charts.{noChart}
@@ -45,9 +48,15 @@ fieldsLeft row =
 unfoldable pub unknownRow : Row → Bool
 unknownRow row = ltb 3 (row .method) || ltb 1 (row .priority) || ltb 1 (row .classic)
 
--- Checks 7 to 9 of a row and the chart that it names: the number of the first that stops it, or 0.
-unfoldable pub rowStop : Row → Chart → ℕ
-rowStop row chart = cond (chartOver chart) 7 (cond (unknownRow row) 8 (cond (fieldsLeft row) 9 0))
+-- check 19: Fast and Closest have the standard weights of their files
+unfoldable pub ownUnfit : Scoring → ℕ → Bool
+ownUnfit Standard method = false
+ownUnfit (Own w) method = eqb method 1 || eqb method 2
+
+-- Checks 7 to 9 and 19 of a row and the chart that it names, by the sheet's scoring: the number of the first that stops it, or 0.
+unfoldable pub rowStop : Scoring → Row → Chart → ℕ
+rowStop sc row chart =
+    cond (chartOver chart) 7 (cond (unknownRow row) 8 (cond (fieldsLeft row) 9 (cond (ownUnfit sc (row .method)) 19 0)))
 
 -- the query that a row states of its chart
 unfoldable pub queryOf : Row → Chart → Query
@@ -69,10 +78,11 @@ queryOf row chart =
       acc = accBy (has (row .presence) 64) (ofBits binary64 (row .acc));
     }
 
--- the answer of a row whose chart is found: what the direct call answers, unless a check stops it before
-unfoldable pub foundAnswer : Row → Chart → Answer (List ℕ)
-foundAnswer row chart = unless (eqb (rowStop row chart) 0) (rowStop row chart) (generateAnswer (queryOf row chart))
+-- the answer of a row whose chart is found: its query's under the sheet's weights, unless a check stops it before
+unfoldable pub foundAnswer : Scoring → Row → Chart → Answer (List ℕ)
+foundAnswer sc row chart =
+    unless (eqb (rowStop sc row chart) 0) (rowStop sc row chart) (scoredAnswer (weightsBy sc (eqb (row .classic) 1)) (queryOf row chart))
 
 -- the answer of a row of a sheet with these charts
-unfoldable pub rowAnswer : Row → List Chart → Answer (List ℕ)
-rowAnswer row charts = unless (ltb (row .chart) (length charts)) 6 (foundAnswer row (getD charts (row .chart) noChart))
+unfoldable pub rowAnswer : Scoring → Row → List Chart → Answer (List ℕ)
+rowAnswer sc row charts = unless (ltb (row .chart) (length charts)) 6 (foundAnswer sc row (getD charts (row .chart) noChart))

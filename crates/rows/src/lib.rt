@@ -1,14 +1,17 @@
 // A row of a sheet: its checks and its answer.
 ghost use mathlib.Core.Path.{_≡_};
 ghost use Prim.Native.Nat.{_<_, _≤_};
+ghost use mathlib.Core.Bool.{true};
 ghost use lib.ListN.{length, take};
+ghost use Rattle.weighting.specs.Scoring.{fair};
 ghost use Rattle.generate.specs.Generated.{generatedOf};
 ghost use Rattle.direct.specs.Direct.{answerIn};
-ghost use Rattle.rows.specs.Rows.{leftOver, holdsLeft, fieldsLeft, unknownRow, rowStop, foundAnswer, rowAnswer};
+ghost use Rattle.rows.specs.Rows.{leftOver, holdsLeft, fieldsLeft, unknownRow, ownUnfit, rowStop, foundAnswer, rowAnswer};
 use generate::Generated;
 use inspect::Chart;
 use records::Row;
 use score_state::HitResults;
+use weighting::Scoring;
 
 // A missing field that is not all zero bytes.
 fn left_over(presence: u8, place: u8, nonzero: bool) -> bool
@@ -59,9 +62,19 @@ fn unknown_row(row: Row) -> bool
     row.classic > 1
 }
 
-// Checks 7 to 9 of a row and its chart: the first that stops it, or 0.
-fn row_stop(row: Row, chart: Chart) -> u32
-    ensures { λ r. ⌜ r ≡ rowStop row chart ⌝ }
+// Check 19: Fast and Closest have no own weights.
+fn own_unfit(scoring: Scoring, method: u8) -> bool
+    ensures { λ r. ⌜ r ≡ ownUnfit scoring method ⌝ }
+{
+    match scoring {
+        Scoring::Standard => false,
+        Scoring::Own(_) => (method == 1) | (method == 2),
+    }
+}
+
+// Checks 7 to 9 and 19 of a row and its chart: the first that stops it, or 0.
+fn row_stop(row: Row, chart: Chart, scoring: Scoring) -> u32
+    ensures { λ r. ⌜ r ≡ rowStop scoring row chart ⌝ }
 {
     if inspect::chart_over(chart.n_objects, chart.n_hold_notes) {
         return 7;
@@ -71,6 +84,9 @@ fn row_stop(row: Row, chart: Chart) -> u32
     }
     if fields_left(row) {
         return 9;
+    }
+    if own_unfit(scoring, row.method) {
+        return 19;
     }
     0
 }
@@ -95,16 +111,19 @@ fn answer_of(status: u32, numbers: [u32; 8]) -> Generated
 }
 
 // The answer of a row whose chart is found.
-fn found_answer(row: Row, chart: Chart) -> Generated
-    ensures { λ r. ⌜ generatedOf r ≡ foundAnswer row chart ⌝ }
+fn found_answer(row: Row, chart: Chart, scoring: Scoring) -> Generated
+    requires { ⌜ fair scoring ≡ true ⌝ }
+    ensures { λ r. ⌜ generatedOf r ≡ foundAnswer scoring row chart ⌝ }
 {
-    let stop = row_stop(row, chart);
+    let stop = row_stop(row, chart, scoring);
     if stop > 0 {
         return Generated::Refused(stop);
     }
     let acc = little_endian::f64_of(row.acc);
+    let weights = weighting::weights_by(scoring, row.classic == 1);
     let mut numbers = [0u32; 8];
-    let status = direct::generate(
+    let status = direct::scored(
+        weights,
         chart.n_objects,
         chart.n_hold_notes,
         row.method,
@@ -127,13 +146,14 @@ fn found_answer(row: Row, chart: Chart) -> Generated
 }
 
 // The answer of a row, the sheet's charts being the first n.
-pub fn row_answer(row: Row, charts: [Chart; 256], n: usize) -> Generated
+pub fn row_answer(row: Row, charts: [Chart; 256], n: usize, scoring: Scoring) -> Generated
     requires { ⌜ (n ≤ 256) × (n ≤ length charts) ⌝ }
-    ensures { λ r. ⌜ generatedOf r ≡ rowAnswer row (take n charts) ⌝ }
+    requires { ⌜ fair scoring ≡ true ⌝ }
+    ensures { λ r. ⌜ generatedOf r ≡ rowAnswer scoring row (take n charts) ⌝ }
 {
     let index = row.chart as usize;
     if index < n {
-        found_answer(row, charts::chart_in(charts, index))
+        found_answer(row, charts::chart_in(charts, index), scoring)
     } else {
         Generated::Refused(6)
     }

@@ -3,8 +3,8 @@
 use libc::STDIN_FILENO;
 use streams::Input;
 
-// The most that is read: a full sheet, 51,208 bytes, and one byte more, which shows that bytes follow the last query.
-const MOST_READ: usize = 4 + 256 * 8 + 4 + 1024 * 48 + 1;
+// The most that is read: a full sheet with own weights, 51,232 bytes, and one byte more, which shows that bytes follow the last query.
+const MOST_READ: usize = 4 + 256 * 8 + 4 + 5 * 4 + 4 + 1024 * 48 + 1;
 
 // Prints the sheet that fd gives, and answers whether all was read and written. A refused sheet is an answer, and no failure.
 pub fn print_from(fd: i32) -> bool {

@@ -14,7 +14,7 @@ use Rattle.records.specs.Records.{chartAt}
 use Rattle.charts.proofs.Listed.{length-charts, chart-of}
 use Rattle.answers.specs.Answers.{answerBytes, value}
 use Rattle.answers.proofs.Written.{status-back, value-back}
-use Rattle.sheets_laws.specs.Sheets.{chartCount, queryCount, rowsAt, sheetStop, chartsOf, answerAt, rowsWritten, WorkedSheet, sheetOf}
+use Rattle.sheets_laws.specs.Sheets.{chartCount, queryCount, rowsAt, scoringOf, sheetStop, chartsOf, answerAt, rowsWritten, WorkedSheet, sheetOf}
 use Rattle.sheets_laws.proofs.Accepted.{accepted, sheet-stopped, sheet-worked}
 use Rattle.sheets_laws.proofs.Written.{length-written, written-part, written-rest}
 
@@ -45,20 +45,20 @@ module _ (s out : List ℕ) where
     pub accepted-answer : sheetOf s out .answer ≡ worked (queryCount s)
     accepted-answer = ap (λ (w : WorkedSheet). w .answer) (sym (sheet-worked s out ok))
 
-    accepted-bytes : sheetOf s out .bytes ≡ rowsWritten s (chartsOf s) (rowsAt s) (queryCount s) out
+    accepted-bytes : sheetOf s out .bytes ≡ rowsWritten s (scoringOf s) (chartsOf s) (rowsAt s) (queryCount s) out
     accepted-bytes = ap (λ (w : WorkedSheet). w .bytes) (sym (sheet-worked s out ok))
 
     pub accepted-length : length (sheetOf s out .bytes) ≡ length out
-    accepted-length = ap length accepted-bytes ∙ length-written s (chartsOf s) (rowsAt s) out (queryCount s) (accepted s (length out) ok .room)
+    accepted-length = ap length accepted-bytes ∙ length-written s (scoringOf s) (chartsOf s) (rowsAt s) out (queryCount s) (accepted s (length out) ok .queries .room)
 
     -- bytes past the last answer stay
     pub bytes-past : drop (36 * queryCount s) (sheetOf s out .bytes) ≡ drop (36 * queryCount s) out
-    bytes-past = ap (drop (36 * queryCount s)) accepted-bytes ∙ written-rest s (chartsOf s) (rowsAt s) out (queryCount s)
+    bytes-past = ap (drop (36 * queryCount s)) accepted-bytes ∙ written-rest s (scoringOf s) (chartsOf s) (rowsAt s) out (queryCount s)
 
     -- the 36 bytes of every row are those of its answer
     pub row-bytes : (i : ℕ) → i < queryCount s → take 36 (drop (36 * i) (sheetOf s out .bytes)) ≡ answerBytes (answerAt s i)
     unfolding answerAt
-    row-bytes i l = ap (λ (b : List ℕ). take 36 (drop (36 * i) b)) accepted-bytes ∙ written-part s (chartsOf s) (rowsAt s) out (queryCount s) i l
+    row-bytes i l = ap (λ (b : List ℕ). take 36 (drop (36 * i) b)) accepted-bytes ∙ written-part s (scoringOf s) (chartsOf s) (rowsAt s) out (queryCount s) i l
 
     -- its status, and its values from n320 (0) to left (7), read back
     pub row-status : (i : ℕ) → i < queryCount s → statusOf (answerAt s i) < 4294967296 → u32At (sheetOf s out .bytes) (36 * i) ≡ statusOf (answerAt s i)

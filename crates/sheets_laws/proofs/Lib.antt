@@ -1,6 +1,6 @@
+pub mod Stops
 pub mod Accepted
 pub mod Written
 pub mod Laws
-pub mod Stops
 pub mod Demand3
 pub mod RisingRows

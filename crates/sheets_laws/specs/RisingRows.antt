@@ -7,13 +7,13 @@ use mathlib.Core.Path.{_≡_}
 use mathlib.Core.List.{List}
 use lib.Ieee.{binary64, ofBits}
 use lib.ListN.{take}
-use Rattle.score_state.specs.Points.{points, standard}
+use Rattle.score_state.specs.Points.{points}
 use Rattle.score_state.specs.Answer.{Answer, statusOf, valuesOf}
 use Rattle.records.specs.declared.Row.{Row}
 use Rattle.generate_laws.specs.Generate.{targetOf}
 use Rattle.generate_laws.specs.Method3.{fiveOf}
 use Rattle.sheets_laws.specs.Sheets.{queryCount}
-use Rattle.sheets_laws.specs.Demand3.{row, inspected, written}
+use Rattle.sheets_laws.specs.Demand3.{row, inspected, weightsFor, written}
 
 -- a row with another acc
 abbrev pub withAcc : ℕ → Row → Row
@@ -43,14 +43,14 @@ sixOf a = take 6 (valuesOf a)
 
 -- the rounded target of row k, whose accuracy has the bits of its field acc
 abbrev pub targetAt : List ℕ → ℕ → ℕ
-targetAt s k = targetOf (inspected s k) (ofBits binary64 (row s k .acc))
+targetAt s k = targetOf (weightsFor s k) (inspected s k) (ofBits binary64 (row s k .acc))
 
--- the points of row k's counts as written, by the weights of its classic flag
+-- the points of row k's counts as written
 abbrev pub pointsAt : List ℕ → List ℕ → ℕ → ℕ
-pointsAt s out k = points (standard (inspected s k .classic)) (fiveOf (written out k))
+pointsAt s out k = points (weightsFor s k) (fiveOf (written out k))
 
 -- "two method 3 rows with status 0, under the same weights, of the same chart and alike but for acc": the rows j and k. A row's own
--- fields name its chart and its weights.
+-- fields name its chart and, where the sheet has no own weights, its weights.
 pub record AlikeButForAcc (s out : List ℕ) (j k : ℕ) : Type 0 where
   pub first : j < queryCount s
   pub second : k < queryCount s

@@ -17,6 +17,19 @@ fn main() {
     stored(b"full_one_follows.sheet");
     stored(b"full_two_follow.sheet");
     stored(b"holds_passed.sheet");
+    stored(b"full_standard_one_follows.sheet");
+    stored(b"full_standard_22_follow.sheet");
+    stored(b"own.sheet");
+    stored(b"own_equal.sheet");
+    stored(b"own_longest.sheet");
+    stored(b"weights_count_cut.sheet");
+    stored(b"weights_count_2.sheet");
+    stored(b"weights_cut.sheet");
+    stored(b"weights_over.sheet");
+    stored(b"weights_zero.sheet");
+    stored(b"weights_rising.sheet");
+    stored(b"weights_equal.sheet");
+    stored(b"weights_queries_over.sheet");
     // A folder, which opens and cannot be read.
     stored(b".");
 }

@@ -12,17 +12,17 @@ use Rattle.inspect.specs.Checks.{chartOver, unknownCode, overCap, countOver, ac
 use Rattle.nearest_laws.specs.Walk as Walk
 use Rattle.nearest_laws.specs.Walk.{gcdIn, gcd, stride, better, settle, lowest, trial, pair, rows, settings, lastOf, initOf, middles, middlesOf, candidates, walk}
 use Rattle.nearest_laws.specs.Nearest.{fold, allGiven, stops, found, nearest}
-use Rattle.generate_laws.specs.Generate.{foundOf, nearestOf, byMethod, answerBy, generateAnswer}
+use Rattle.generate_laws.specs.Generate.{foundOf, nearestOf, byMethod, scoredBy}
 use Rattle.little_endian.specs.Bytes.{bytes4}
 use Rattle.records.specs.Records.{chartAt, rowAt}
 use Rattle.charts.specs.Charts.{chartsAt}
-use Rattle.rows.specs.Rows.{leftOver, holdsLeft, fieldsLeft, unknownRow, rowStop, queryOf, foundAnswer, rowAnswer}
+use Rattle.rows.specs.Rows.{leftOver, holdsLeft, fieldsLeft, unknownRow, ownUnfit, rowStop, queryOf, foundAnswer, rowAnswer}
 use Rattle.answers.specs.Answers.{fieldBytes, answerBytes}
-use Rattle.sheets_laws.specs.Sheets.{sheetStop, chartsOf, rowOf, rowsWritten, sheetOf}
+use Rattle.sheets_laws.specs.Sheets.{scoringFrom, chartsStop, scoringStop, queriesStop, sheetStop, chartsOf, rowOf, rowsWritten, sheetOf}
 use Rattle.text.specs.Text.{decimalUpTo, decimalText, signedText}
 use Rattle.table.specs.Table.{headerText, fieldText, fieldsText, leftText, rowText, tableText, answerText, room, printedOf}
 use Rattle.table_example.specs.Example.{sheet, shown}
 
 pub example : printedOf sheet ≡ shown
-unfolding sheet shown printedOf answerText tableText headerText rowText fieldsText fieldText leftText room decimalText decimalUpTo signedText sheetStop chartsOf rowOf rowsWritten sheetOf fieldBytes answerBytes bytes4 chartAt rowAt chartsAt leftOver holdsLeft fieldsLeft unknownRow rowStop queryOf foundAnswer rowAnswer generateAnswer answerBy byMethod foundOf nearestOf lt le mul sub div neg ofInt ofBits roundEven hits points gap or missing givenHits givenPoints fill shortened totalHits cappedMisses misses remain target chartOver unknownCode overCap countOver accOutside stopOf gcdIn gcd stride Walk.start Walk.over better Walk.offer settle lowest trial pair rows settings lastOf initOf middles middlesOf candidates walk fold allGiven stops found nearest
+unfolding sheet shown printedOf answerText tableText headerText rowText fieldsText fieldText leftText room decimalText decimalUpTo signedText scoringFrom chartsStop scoringStop queriesStop sheetStop chartsOf rowOf rowsWritten sheetOf fieldBytes answerBytes bytes4 chartAt rowAt chartsAt leftOver holdsLeft fieldsLeft unknownRow ownUnfit rowStop queryOf foundAnswer rowAnswer scoredBy byMethod foundOf nearestOf lt le mul sub div neg ofInt ofBits roundEven hits points gap or missing givenHits givenPoints fill shortened totalHits cappedMisses misses remain target chartOver unknownCode overCap countOver accOutside stopOf gcdIn gcd stride Walk.start Walk.over better Walk.offer settle lowest trial pair rows settings lastOf initOf middles middlesOf candidates walk fold allGiven stops found nearest
 example = refl

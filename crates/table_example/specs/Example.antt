@@ -1,5 +1,6 @@
 -- Document 01, Program `sheet`: "One chart, query 0 as E with method 3, query 1 method 3 with presence 0", and the three lines that it
--- prints: E is "n320 = n300 = 0, acc 1" of a chart of 20 objects. Each line ends with left (document 02, L1).
+-- prints: E is "n320 = n300 = 0, acc 1" of a chart of 20 objects. Each line ends with left (document 02, L1); between charts and queries
+-- stands the count of own weights (L4).
 use mathlib.Core.List.{List, [], _∷_}
 use Prim.Native.Nat.{ℕ}
 
@@ -7,6 +8,8 @@ unfoldable pub sheet : List ℕ
 sheet =
     -- one chart: 20 objects, no hold notes
     1 ∷ 0 ∷ 0 ∷ 0 ∷ 20 ∷ 0 ∷ 0 ∷ 0 ∷ 0 ∷ 0 ∷ 0 ∷ 0 ∷
+    -- no own weights
+    0 ∷ 0 ∷ 0 ∷ 0 ∷
     -- two queries
     2 ∷ 0 ∷ 0 ∷ 0 ∷
     -- method 3, presence 67 (n320, n300, acc), acc 1.0

@@ -1,8 +1,25 @@
-// Document 02, L4: which weights a league may set.
+// Document 02, L4: which weights a league may set, and by which weights the rows of a sheet are scored.
 ghost use mathlib.Core.Path.{_≡_};
 ghost use Rattle.score_state.specs.Points.{weightsOf};
 ghost use Rattle.nearest_laws.specs.Nearest.{weighs};
+ghost use Rattle.weighting.specs.Scoring.{weightsBy, fair};
 use score_state::Weights;
+
+// By which weights a sheet's rows are scored: by the two standard weightings, or by a league's own.
+pub enum Scoring {
+    Standard,
+    Own(Weights),
+}
+
+// The weights of a row by its classic flag, which own weights do not look at.
+pub fn weights_by(scoring: Scoring, classic: bool) -> Weights
+    ensures { λ r. ⌜ weightsOf r ≡ weightsBy scoring classic ⌝ }
+{
+    match scoring {
+        Scoring::Standard => score_state::standard_weights(classic),
+        Scoring::Own(weights) => weights,
+    }
+}
 
 // Whether weights fall from at most 100 to at least 1: strictly, but for the first two, which may be equal.
 pub fn is_weighting(weights: Weights) -> bool
@@ -24,4 +41,14 @@ pub fn is_weighting(weights: Weights) -> bool
         return false;
     }
     weights.n50 >= 1
+}
+
+// Whether check 18 lets the weights pass; the standard ones always do.
+pub fn is_fair(scoring: Scoring) -> bool
+    ensures { λ r. ⌜ r ≡ fair scoring ⌝ }
+{
+    match scoring {
+        Scoring::Standard => true,
+        Scoring::Own(weights) => is_weighting(weights),
+    }
 }

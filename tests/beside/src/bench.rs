@@ -9,7 +9,7 @@ use std::{
 
 use crate::{
     inputs::{self, Holds, Rng},
-    nearest, ours,
+    nearest, ours, plays,
     query::{ACC, CAP, CHART, Method, Query},
     repo,
     sheet::{self, ANSWER, CHARTS, Chart, QUERIES},
@@ -238,6 +238,29 @@ fn longest_walk() {
     );
 }
 
+/// The longest walk under own weights, alone in its sheet, and a full sheet of it once.
+fn longest_own_walk() {
+    let q = plays::longest_own_walk();
+    let sheet = |rows: usize| Full {
+        bytes: sheet::weighted(&[(CHART, CHART)], q.own, &vec![sheet::row(0, &q); rows]),
+        queries: vec![q; rows],
+    };
+    let (_, tried) = nearest::walk(&q);
+    let (ours, walk) = time(&[sheet(1)], Full::ours, Full::alone);
+
+    println!(
+        "bench nearest under own weights, {tried} candidates: ours {:.2} ns a candidate; the plain walk \
+         {:.2} ns; ours is {:.2} times as fast",
+        ours / f64::from(tried),
+        walk / f64::from(tried),
+        walk / ours
+    );
+    println!(
+        "bench a full sheet of longest walks under own weights: ours {:.3} s",
+        pass(&[sheet(QUERIES)], Full::ours) / 1e9
+    );
+}
+
 /// Queries for Nearest whose walk is short, so that what comes before it counts.
 fn short_walks(rng: &mut Rng) {
     for missing in 2..=5 {
@@ -264,6 +287,7 @@ pub fn run(rng: &mut Rng) {
 
     closest(rng);
     longest_walk();
+    longest_own_walk();
     sheets(rng);
     short_walks(rng);
 }

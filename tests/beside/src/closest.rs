@@ -69,7 +69,7 @@ pub fn run(rng: &mut Rng) -> bool {
 
     let mut compare = |q: &Query| tally.generate(q, repo::answer(q));
 
-    inputs::exhaustive(method, SMALL, &mut |q| {
+    inputs::exhaustive(method, None, SMALL, &mut |q| {
         if rng.one_in(size.one_in) {
             compare(q);
         }

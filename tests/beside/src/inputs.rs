@@ -3,7 +3,7 @@
 
 use std::env;
 
-use crate::query::{ACC, CAP, CHART, MISSES, Method, PASSED, Query};
+use crate::query::{ACC, CAP, CHART, MISSES, Method, PASSED, Query, Weights};
 
 /// splitmix64.
 pub struct Rng(u64);
@@ -215,6 +215,7 @@ pub fn query_over(
         passed: rng.next() as u32,
         acc: f64::from_bits(rng.next()),
         holds_passed: holds.passed(rng, n_hold_notes),
+        own: None,
     };
 
     // Three in four have an accuracy; the others go to IgnoreAccuracy or are refused.
@@ -236,16 +237,20 @@ pub fn query_over(
     }
 
     give_counts(rng, &mut q);
+    give_acc(rng, &mut q);
 
+    q
+}
+
+/// Gives the query an accuracy, if it has one, that suits its weights.
+pub fn give_acc(rng: &mut Rng, q: &mut Query) {
     if q.has(ACC) {
         q.acc = acc(rng, q.full_points());
 
         if rng.one_in(4) {
-            aim_between(rng, &mut q);
+            aim_between(rng, q);
         }
     }
-
-    q
 }
 
 /// Gives the given counts their numbers, by shares of remain or, one in three, crowding it.
@@ -333,8 +338,9 @@ pub fn spoil(rng: &mut Rng, q: &mut Query) {
 /// Thinned where it cannot (fewer than two missing, no hits left) and where two are missing and
 /// overfull, which is 12 or 14: there one target each, which moves from query to query. One in 8
 /// has its like without accuracy. Objects, hold notes, passed, holds passed and priority change from
-/// query to query too, and a missing field holds a number that means nothing.
-pub fn exhaustive(method: Method, most: u32, visit: &mut dyn FnMut(&Query)) {
+/// query to query too, and a missing field holds a number that means nothing. All are under these own
+/// weights, if there are any.
+pub fn exhaustive(method: Method, own: Option<Weights>, most: u32, visit: &mut dyn FnMut(&Query)) {
     let mut turn = 0_u32;
 
     for hits in 0..=most {
@@ -346,6 +352,7 @@ pub fn exhaustive(method: Method, most: u32, visit: &mut dyn FnMut(&Query)) {
                 for code in 0..(hits + 4).pow(u32::count_ones(pattern)) {
                     turn = turn.wrapping_add(1);
                     let mut q = small(hits, classic, misses, turn).by(method);
+                    q.own = own;
                     place(&mut q, pattern, code, hits);
                     aims(&mut q, turn, visit);
                 }

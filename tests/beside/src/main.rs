@@ -3,7 +3,8 @@
 //!
 //! The repository's files are compiled unchanged from where they lie (build.rs), among the few
 //! types that they ask for (repo.rs). The library is linked through its C interface (ours.rs).
-//! Nearest, which is not the repository's, has a plain walk written from document 01 beside it.
+//! Nearest, which is not the repository's, has a plain walk written from document 01 beside it, for any
+//! weights.
 //!
 //! `run [part ..]` builds and runs the parts that `PARTS` lists; all of them if none is named. `run
 //! parts` prints their names. Each but bench ends with a line
@@ -29,6 +30,7 @@ mod inputs;
 mod list;
 mod nearest;
 mod ours;
+mod own_sheets;
 mod plain;
 mod plays;
 mod program;

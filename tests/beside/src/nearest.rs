@@ -1,18 +1,23 @@
-//! Part nearest: the library's beside a plain walk written from document 01, which an enumeration
-//! of all splits judges on charts of up to 12 hits: no split lies nearer than the size of left. With
-//! exactly two missing, Closest must lie as far from the rounded target. What is left is also
-//! compared with a list told by hand.
+//! Part nearest: the library's beside a plain walk written from document 01, for any weights, which an
+//! enumeration of all splits judges on charts of up to 12 hits: no split lies nearer than the size of
+//! left. Its tried keeps to demand 3's bounds. With exactly two missing, Closest must lie as far from
+//! the rounded target. What is left is also compared with a list told by hand.
 
 use crate::{
     closest::SMALL,
     inputs::{self, Holds, Rng, Size},
     ours, plays,
     query::{Answer, CHART, Method, Query},
+    strides,
     tally::Tally,
 };
 
 /// The most hits for which all splits are looked at.
-const ALL_SPLITS: u32 = 12;
+pub const ALL_SPLITS: u32 = 12;
+
+/// The most candidates of any walk, with the standard weights and with own ones.
+const TRIED: i64 = 88_434;
+const OWN_TRIED: i64 = 1_940_598;
 
 /// The walk on its way.
 struct Walk {
@@ -83,10 +88,11 @@ pub fn stride(a: i64, b: i64, c: i64) -> i64 {
 
 /// The walk's five counts and tried, for a query that no check stops.
 pub fn walk(q: &Query) -> ([u32; 5], u32) {
+    let all_weights = q.weights().map(i64::from);
     let mut given = q.given();
 
-    // Step 1.
-    if q.classic && given[0].is_none() && given[1].is_none() {
+    // Step 1: the classic pair, and the first two own weights if they are equal.
+    if all_weights[0] == all_weights[1] && given[0].is_none() && given[1].is_none() {
         given[1] = Some(0);
     }
 
@@ -94,7 +100,7 @@ pub fn walk(q: &Query) -> ([u32; 5], u32) {
     let mut score = q.target();
     let mut weights = Vec::new();
 
-    for (n, weight) in given.into_iter().zip(q.weights().map(i64::from)) {
+    for (n, weight) in given.into_iter().zip(all_weights) {
         match n.map(i64::from) {
             Some(n) => {
                 hits -= n;
@@ -167,38 +173,59 @@ fn size_of_left(answer: &Answer) -> u64 {
     answer.left().unsigned_abs().into()
 }
 
+/// Judges an answer of Nearest by what demand 3 says of it: by all splits, if there are few, and by
+/// the bounds on tried.
+pub fn judge(tally: &mut Tally, q: &Query, answer: &Answer) {
+    if matches!(answer.status, 0 | 14) && q.total_hits() <= ALL_SPLITS {
+        judge_by_all_splits(tally, q, answer);
+    }
+
+    if answer.status == 0 {
+        judge_tried(tally, q, answer);
+    }
+}
+
+/// 14 if and only if there is no split; else the answer is a split and none is nearer.
+fn judge_by_all_splits(tally: &mut Tally, q: &Query, answer: &Answer) {
+    let [counts @ .., _misses, _tried, _left] = &answer.values;
+    let keeps = q
+        .given()
+        .iter()
+        .zip(counts)
+        .all(|(given, n)| given.is_none_or(|g| g == *n));
+    let sums = counts.iter().sum::<u32>() == q.remain();
+    let found = (answer.status == 0 && keeps && sums).then(|| size_of_left(answer));
+    let nearest = nearest_split(&q.given(), &q.weights(), q.remain(), q.target());
+
+    tally.judge(
+        found == nearest && found.is_some() == (answer.status == 0),
+        || format!("{q}: {answer}, at {found:?}, where the nearest split is at {nearest:?}"),
+    );
+}
+
+/// tried is at most 2 times the product of the q's, and never over the bound for such weights.
+fn judge_tried(tally: &mut Tally, q: &Query, answer: &Answer) {
+    let [.., tried, _left] = answer.values;
+    let strides = strides::formula(q.weights().map(i64::from), usize::from(q.presence % 32));
+    let bound = if q.own.is_some() { OWN_TRIED } else { TRIED };
+    let most = bound.min(2 * strides.iter().product::<i64>());
+
+    tally.judge(i64::from(tried) <= most, || {
+        format!("{q}: {answer}, where at most {most} are tried")
+    });
+}
+
 struct Part(Tally);
 
 impl Part {
     fn compare(&mut self, q: &Query) {
         let answer = answer(q);
         self.0.generate(q, answer);
-
-        if matches!(answer.status, 0 | 14) && q.total_hits() <= ALL_SPLITS {
-            self.judge_by_all_splits(q, &answer);
-        }
+        judge(&mut self.0, q, &answer);
 
         if answer.status == 0 && q.missing() == 2 {
             self.compare_with_closest(q, &answer);
         }
-    }
-
-    /// 14 if and only if there is no split; else the answer is a split and none is nearer.
-    fn judge_by_all_splits(&mut self, q: &Query, answer: &Answer) {
-        let [counts @ .., _misses, _tried, _left] = &answer.values;
-        let keeps = q
-            .given()
-            .iter()
-            .zip(counts)
-            .all(|(given, n)| given.is_none_or(|g| g == *n));
-        let sums = counts.iter().sum::<u32>() == q.remain();
-        let found = (answer.status == 0 && keeps && sums).then(|| size_of_left(answer));
-        let nearest = nearest_split(&q.given(), &q.weights(), q.remain(), q.target());
-
-        self.0.judge(
-            found == nearest && found.is_some() == (answer.status == 0),
-            || format!("{q}: {answer}, at {found:?}, where the nearest split is at {nearest:?}"),
-        );
     }
 
     /// With two missing, the library's Closest lies as far from the target.
@@ -236,7 +263,7 @@ pub fn run(rng: &mut Rng) -> bool {
         part.0.left(&q, &answer(&q), left);
     }
 
-    inputs::exhaustive(method, SMALL, &mut |q| {
+    inputs::exhaustive(method, None, SMALL, &mut |q| {
         if rng.one_in(size.one_in) {
             part.compare(q);
         }

@@ -1,9 +1,9 @@
 //! The plays of document 01 that name a method's answer, A to I, with document 02's left; J and K are
 //! among the limits of every part. The same plays broken off, so that only some of their holds count.
-//! Then other plays, whose answers are told by hand: those of which Nearest leaves points, and those
-//! with holds passed.
+//! Then other plays, whose answers are told by hand: those of which Nearest leaves points, those with
+//! holds passed, and rows of sheets with own weights.
 
-use crate::query::{ACC, Answer, CAP, CHART, MISSES, Method, NAMES, PASSED, Query};
+use crate::query::{ACC, Answer, CAP, CHART, MISSES, Method, NAMES, PASSED, Query, Weights};
 
 pub struct Play {
     pub label: char,
@@ -55,6 +55,23 @@ fn missed(q: Query, misses: u32) -> Query {
         presence: q.presence | MISSES,
         misses,
         ..q
+    }
+}
+
+/// Zeros for all five counts but those that are missing.
+fn zeros_but(missing: &[&str]) -> Vec<(&'static str, u32)> {
+    let mut given = NAMES.map(|name| (name, 0)).to_vec();
+    given.retain(|(name, _)| !missing.contains(name));
+    given
+}
+
+/// The answer to a play that no check stops.
+fn counts(counts: [u32; 5], misses: u32, tried: u32, left: i32) -> Answer {
+    let [n320, n300, n200, n100, n50] = counts;
+
+    Answer {
+        status: 0,
+        values: [n320, n300, n200, n100, n50, misses, tried, left as u32],
     }
 }
 
@@ -155,12 +172,6 @@ pub fn left_over() -> Vec<(Query, i64)> {
     let zeros = NAMES.map(|name| (name, 0));
     // All five given, one of them with all the hits.
     let all = |of, n| NAMES.map(|name| (name, if name == of { n } else { 0 }));
-    // Five given zeros, but for those that are missing.
-    let but = |missing: &[&str]| {
-        let mut given = zeros.to_vec();
-        given.retain(|(name, _)| !missing.contains(name));
-        given
-    };
     let ten = |given: &[_]| chart(10, given);
     let classic = |q| Query { classic: true, ..q };
     let largest = |given: &[_]| Query {
@@ -169,7 +180,7 @@ pub fn left_over() -> Vec<(Query, i64)> {
     };
 
     // Its splits have 100 points, 130, and so on to 400.
-    let stepped = ten(&but(&["n200", "n50"]));
+    let stepped = ten(&zeros_but(&["n200", "n50"]));
 
     // Each with its rounded target and what is left.
     let told = [
@@ -194,10 +205,10 @@ pub fn left_over() -> Vec<(Query, i64)> {
         (stepped, 430, 30),
         (stepped, 610, 210),
         // The only split that there is, by one missing count, by none, and without hits.
-        (ten(&but(&["n50"])), 0, -100),
-        (ten(&but(&["n50"])), 610, 510),
-        (ten(&but(&["n320"])), 0, -610),
-        (classic(ten(&but(&["n320", "n300"]))), 599, -1),
+        (ten(&zeros_but(&["n50"])), 0, -100),
+        (ten(&zeros_but(&["n50"])), 610, 510),
+        (ten(&zeros_but(&["n320"])), 0, -610),
+        (classic(ten(&zeros_but(&["n320", "n300"]))), 599, -1),
         (ten(&all("n320", 10)), 0, -610),
         (ten(&all("n320", 10)), 609, -1),
         (ten(&all("n50", 10)), 610, 510),
@@ -248,12 +259,6 @@ pub fn with_holds() -> Vec<(Query, Answer)> {
     let eleven = [&[("n320", 11)][..], &zeros[1..]].concat();
     let twelve = [("n320", 6), ("n300", 6), ("n200", 0)];
 
-    let counts = |counts: [u32; 5], misses, tried, left| Answer {
-        status: 0,
-        values: [
-            counts[0], counts[1], counts[2], counts[3], counts[4], misses, tried, left,
-        ],
-    };
     let best = |n| counts([n, 0, 0, 0, 0], 0, 0, 0);
     let refused = Answer::refused;
 
@@ -381,4 +386,192 @@ pub fn targets_with_holds() -> Vec<(Query, [u32; 4])> {
         (missed(whole(1), 3), [11, 3, 8, 671]),
         (missed(shortened(whole(2), 6), 9), [8, 8, 0, 488]),
     ]
+}
+
+/// Rows of sheets with own weights and their answers, told by hand from document 02: points and target
+/// are by those weights, the first of them being w, and classic decides holds only.
+pub fn with_own_weights() -> Vec<(Query, Answer)> {
+    const FALLING: Weights = [5, 4, 3, 2, 1];
+    const EQUAL: Weights = [80, 80, 40, 20, 10];
+    const STANDARD: Weights = [61, 60, 40, 20, 10];
+    const CLASSIC: Weights = [60, 60, 40, 20, 10];
+
+    let first_two = zeros_but(&["n320", "n300"]);
+    let classic = |q| Query { classic: true, ..q };
+    let worst = |q| Query { priority: 1, ..q };
+    let holds = |n_hold_notes, q| Query { n_hold_notes, ..q };
+    let at = |acc, q| Query { acc, ..q };
+    let without_acc = |q: Query| Query {
+        presence: q.presence & !ACC,
+        ..q
+    };
+    let aimed = |own: Weights, q: Query, target| aimed(q.under(own), target);
+    let ones = NAMES.map(|name| (name, 1));
+    let e = chart(20, &[("n320", 0), ("n300", 0)]);
+    let g = missed(chart(10, &[("n100", 3)]), 2);
+    let largest = |given: &[_]| holds(CHART, chart(CHART, given));
+    let all_n320 = [&[("n320", 2 * CHART)][..], &zeros_but(&["n320"])].concat();
+
+    let nearest = [
+        // T = 2.5, to even. The hit as n50 (1 away), as n320 (3 away), as n100.
+        (
+            at(0.5, chart(1, &[])).under(FALLING),
+            counts([0, 0, 0, 1, 0], 0, 3, 0),
+        ),
+        // T = 7.5, to even, and three points.
+        (
+            at(0.5, chart(3, &zeros_but(&["n50"]))).under(FALLING),
+            counts([0, 0, 0, 0, 3], 0, 1, 5),
+        ),
+        (
+            at(0.0, chart(4, &zeros_but(&["n320"]))).under(FALLING),
+            counts([4, 0, 0, 0, 0], 0, 1, -20),
+        ),
+        // T = 0.5 x 100 x 10 = 500. D = 500 - 50 x 10 = 0, so lo = 0: ten of the lighter weight.
+        (
+            at(0.5, chart(10, &first_two)).under([100, 50, 3, 2, 1]),
+            counts([0, 10, 0, 0, 0], 0, 1, 0),
+        ),
+        // n200 goes from 0 to q - 1 = 8 / gcd(8, 2) - 1 = 3, with lo = 1 each time. Points 13 and 21, 15
+        // and 23, 17 and 25, 19 and 27: 21 is the first that is 1 away.
+        (
+            aimed(
+                [9, 6, 3, 2, 1],
+                chart(5, &zeros_but(&["n320", "n200", "n50"])),
+                20,
+            ),
+            counts([2, 0, 0, 0, 3], 0, 8, -1),
+        ),
+        // n300, n200 and n100 go up to 3, 1 and 3. Points 192, 196; 193, 197; 194; 194, 198; 195.
+        (
+            aimed([100, 99, 98, 97, 96], chart(2, &[]), 195),
+            counts([0, 0, 1, 1, 0], 0, 8, 0),
+        ),
+        // The pair folds whatever classic says: n320 takes the six hits, or the four without holds.
+        (
+            at(0.5, holds(2, chart(4, &first_two))).under(EQUAL),
+            counts([6, 0, 0, 0, 0], 0, 1, -240),
+        ),
+        (
+            at(0.5, classic(holds(2, chart(4, &first_two)))).under(EQUAL),
+            counts([4, 0, 0, 0, 0], 0, 1, -160),
+        ),
+        (
+            at(0.5, holds(3, chart(5, &first_two))).under(CLASSIC),
+            counts([8, 0, 0, 0, 0], 0, 1, -240),
+        ),
+        // It leaves n320 and n50: D = 150 - 30 = 120, lo = 120 div 70 = 1, points 100 and 170.
+        (
+            aimed(EQUAL, chart(3, &zeros_but(&["n320", "n300", "n50"])), 150),
+            counts([2, 0, 0, 0, 1], 0, 2, -20),
+        ),
+        // There is no pair where one of the two is given.
+        (
+            chart(3, &[("n300", 1), ("n200", 0), ("n100", 0), ("n50", 0)]).under(EQUAL),
+            counts([2, 1, 0, 0, 0], 0, 1, 0),
+        ),
+        (
+            chart(3, &[("n320", 1), ("n200", 0), ("n100", 0), ("n50", 0)]).under(EQUAL),
+            counts([1, 2, 0, 0, 0], 0, 1, 0),
+        ),
+        // Unequal weights do not fold in a classic row: of five hits D = 302 - 300 = 2, lo = 2. If it is
+        // not classic there are eight, and 480 points come nearest to 302.
+        (
+            aimed(STANDARD, classic(holds(3, chart(5, &first_two))), 302),
+            counts([2, 3, 0, 0, 0], 0, 1, 0),
+        ),
+        (
+            aimed(STANDARD, holds(3, chart(5, &first_two)), 302),
+            counts([0, 8, 0, 0, 0], 0, 2, -178),
+        ),
+        // Play E, whose w is 61 in a classic row too.
+        (e.under(STANDARD), counts([0, 0, 20, 0, 0], 0, 3, 420)),
+        (
+            classic(e).under(STANDARD),
+            counts([0, 0, 20, 0, 0], 0, 3, 420),
+        ),
+        // Five given: T = 7 x 6 = 42, and 7 + 6 + 5 + 2 + 1 = 21 points.
+        (
+            missed(chart(6, &ones), 1).under([7, 6, 5, 2, 1]),
+            counts([1; 5], 1, 0, 21),
+        ),
+        (
+            missed(chart(6, &ones), 2).under([7, 6, 5, 2, 1]),
+            Answer::refused(14),
+        ),
+        // One missing: T = 450, and 300 + 200 + 3 points.
+        (
+            at(
+                0.75,
+                chart(6, &[("n300", 2), ("n200", 1), ("n100", 0), ("n50", 0)]),
+            )
+            .under([100, 100, 3, 2, 1]),
+            counts([3, 2, 1, 0, 0], 0, 1, -53),
+        ),
+        // Of n hits, all missing, D = 5 n - n and lo = 4 n div 4 = n.
+        (
+            reached(&[], 1).under(FALLING),
+            counts([11, 0, 0, 0, 0], 0, 1, 0),
+        ),
+        (
+            classic(reached(&[], 1)).under(FALLING),
+            counts([10, 0, 0, 0, 0], 0, 1, 0),
+        ),
+        // No hits are left of the target of 50.
+        (
+            missed(chart(10, &[]), 12).under(FALLING),
+            counts([0; 5], 10, 1, 50),
+        ),
+        (chart(5, &[("n200", 6)]).under(FALLING), Answer::refused(14)),
+        (
+            without_acc(chart(5, &[])).under(FALLING),
+            Answer::refused(13),
+        ),
+        (
+            largest(&[("n50", 2 * CHART)]).under([100, 99, 98, 97, 1]),
+            counts([0, 0, 0, 0, 2 * CHART], 0, 1, 19_800_000),
+        ),
+        (
+            at(0.0, largest(&all_n320)).under([100, 99, 98, 97, 1]),
+            counts([2 * CHART, 0, 0, 0, 0], 0, 0, -20_000_000),
+        ),
+        (
+            longest_own_walk(),
+            counts([0, 0, 0, 0, 2 * CHART], 0, 1_940_598, -199_999),
+        ),
+    ];
+
+    // Play G, with an accuracy and without: its answers need no weights.
+    let ignore_acc = [
+        (g, counts([5, 0, 0, 3, 0], 2, 0, 0)),
+        (without_acc(g), counts([5, 0, 0, 3, 0], 2, 0, 0)),
+        (worst(g), counts([0, 0, 0, 3, 5], 2, 0, 0)),
+        (classic(holds(4, g)), counts([5, 0, 0, 3, 0], 2, 0, 0)),
+        (holds(4, g), counts([9, 0, 0, 3, 0], 2, 0, 0)),
+    ];
+
+    let by = |method: Method, q: Query| q.by(method).under(FALLING);
+    let refused = [Method::Fast, Method::Closest]
+        .into_iter()
+        .flat_map(|method| {
+            [g, without_acc(g), classic(g), e].map(|q| (by(method, q), Answer::refused(19)))
+        });
+
+    nearest
+        .map(|(q, answer)| (q.by(Method::Nearest), answer))
+        .into_iter()
+        .chain(ignore_acc.map(|(q, answer)| (by(Method::IgnoreAcc, q), answer)))
+        .chain(refused)
+        .collect()
+}
+
+/// The longest walk under own weights: all three middles have q = 99, as 97, 2 and 1 share no factor
+/// with 99. D is below 0 in each of the 99 x 99 x 99 settings and hits are left, so two candidates
+/// are tried in each. None reaches the target of 1, and the first, all n50, stays.
+pub fn longest_own_walk() -> Query {
+    let q = Query {
+        n_hold_notes: CHART,
+        ..chart(CHART, &[])
+    };
+    aimed(q.under([100, 98, 3, 2, 1]), 1).by(Method::Nearest)
 }

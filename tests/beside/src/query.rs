@@ -14,6 +14,9 @@ pub const PASSED: u8 = 1 << 7;
 
 pub const NAMES: [&str; 5] = ["n320", "n300", "n200", "n100", "n50"];
 
+/// Five weights, from n320 to n50.
+pub type Weights = [u32; 5];
+
 #[derive(Clone, Copy, Debug, PartialEq, Eq)]
 pub enum Method {
     IgnoreAcc,
@@ -40,8 +43,9 @@ impl Method {
     }
 }
 
-/// What a direct call takes. A missing field's number is there but means nothing. The default is
-/// IgnoreAccuracy of an empty chart, not classic, with nothing given.
+/// What a direct call takes, or what a row and its sheet say. A missing field's number is there but
+/// means nothing. The default is IgnoreAccuracy of an empty chart, not classic, with nothing given and
+/// the standard weights.
 #[derive(Clone, Copy, Debug, Default)]
 pub struct Query {
     pub n_objects: u32,
@@ -56,6 +60,8 @@ pub struct Query {
     pub acc: f64,
     /// How many hold notes were passed, where that is given.
     pub holds_passed: Option<u32>,
+    /// The own weights of the row's sheet, where it has them. A direct call takes none.
+    pub own: Option<Weights>,
 }
 
 /// A status and, where it is 0, the five counts, misses, tried and the bits of left.
@@ -91,6 +97,14 @@ impl Query {
         }
     }
 
+    /// The same query as a row of a sheet with own weights.
+    pub fn under(self, own: Weights) -> Self {
+        Self {
+            own: Some(own),
+            ..self
+        }
+    }
+
     pub fn has(&self, bit: u8) -> bool {
         self.presence & bit != 0
     }
@@ -121,8 +135,9 @@ impl Query {
         self.given().into_iter().filter(Option::is_none).count()
     }
 
-    pub fn weights(&self) -> [u32; 5] {
-        [if self.classic { 60 } else { 61 }, 60, 40, 20, 10]
+    pub fn weights(&self) -> Weights {
+        let standard = [if self.classic { 60 } else { 61 }, 60, 40, 20, 10];
+        self.own.unwrap_or(standard)
     }
 
     /// The hold notes that the player reached: the smaller of the passed ones and the chart's, or the
@@ -190,7 +205,8 @@ impl Query {
         !(0.0..=1.0).contains(&self.acc)
     }
 
-    /// The number by which the document stops a direct call, or 0.
+    /// The number by which the documents stop a direct call, or a row that the checks 6 to 9 pass, or
+    /// 0.
     pub fn status(&self) -> u32 {
         let over = |given: Option<u32>| given.is_some_and(|n| n > CAP);
 
@@ -202,7 +218,9 @@ impl Query {
             return 8;
         };
 
-        if self.given().into_iter().any(over) || over(self.given_misses()) {
+        if self.own.is_some() && matches!(method, Method::Fast | Method::Closest) {
+            return 19;
+        } else if self.given().into_iter().any(over) || over(self.given_misses()) {
             return 10;
         } else if self.has(ACC) && self.acc_outside() {
             return 11;
@@ -248,6 +266,10 @@ impl fmt::Display for Query {
 
         if let Some(holds) = self.holds_passed {
             write!(f, " holds passed {holds}")?;
+        }
+
+        if let Some(own) = self.own {
+            write!(f, " own weights {own:?}")?;
         }
 
         write!(f, " acc {:?} ({:#018x})", self.acc, self.acc.to_bits())

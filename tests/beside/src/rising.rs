@@ -1,15 +1,18 @@
 //! Part rising: document 02's L8 over the bytes that the library writes. Rows of Nearest that are
-//! alike but for acc are worked in sheets, in any order. Put in the order of their rounded targets,
-//! the points of their counts never fall, and equal targets have the same six counts. The left of
-//! each is its target less those points. Rows among them whose acc is refused are left out.
+//! alike but for acc are worked in sheets, in any order, with the standard weights and with own ones.
+//! Put in the order of their rounded targets, the points of their counts never fall, and equal targets
+//! have the same six counts. The left of each is its target less those points. Rows among them whose acc
+//! is refused are left out.
 
-use std::{collections::BTreeSet, fmt};
+use std::{collections::BTreeSet, fmt, mem};
 
 use crate::{
     inputs::{self, Holds, INSIDE, OUTSIDE, Rng, Size},
     ours,
-    query::{ACC, Answer, CHART, MISSES, Method, PASSED, Query},
+    own_sheets::{self, WEIGHTINGS},
+    query::{ACC, Answer, CHART, MISSES, Method, PASSED, Query, Weights},
     sheet::{self, ANSWER, Chart, QUERIES},
+    stride_table,
     tally::Tally,
 };
 
@@ -18,6 +21,9 @@ const SMALL: u32 = 12;
 
 /// All values of the five presence bits, priority and classic.
 const TURNS: u64 = 128;
+
+/// All values of the presence bits and classic, as priority plays no part.
+const OWN_TURNS: u64 = 64;
 
 /// How far from both ends the targets of the largest charts are tried, and how many between.
 const ENDS: u32 = 60;
@@ -104,8 +110,9 @@ impl Part<'_> {
     fn work(&mut self, queries: &[Query]) -> Vec<Answer> {
         let chart = (queries[0].n_objects, queries[0].n_hold_notes);
         let rows: Vec<_> = queries.iter().map(|q| sheet::row(0, q)).collect();
+        let bytes = sheet::weighted(&[chart], queries[0].own, &rows);
         let mut out = vec![0xA5; ANSWER * rows.len()];
-        let status = ours::work_sheet(&sheet::bytes(&[chart], &rows), &mut out);
+        let status = ours::work_sheet(&bytes, &mut out);
 
         self.tally.judge(status == 0, || {
             format!("{}: its sheet is refused by {status}", queries[0])
@@ -127,6 +134,26 @@ impl Part<'_> {
             }
         }
     }
+
+    /// The targets around both ends of a query, and some between.
+    fn ends(&mut self, q: &Query) {
+        let full = q.full_points();
+        let ends = (0..=ENDS).chain(full.saturating_sub(ENDS)..=full);
+        let between: Vec<_> = (0..BETWEEN).map(|_| self.rng.upto(full)).collect();
+        self.compare(q, around(full, ends.chain(between)));
+    }
+
+    /// Tells the ties so far, which are forgotten. Both sides must be there.
+    fn tell_ties(&mut self, queries: u64, weights: &str, all: bool) {
+        let [below, above] = mem::take(&mut self.ties);
+        println!(
+            "rising: {queries} queries with {weights} weights; {below} ties that went below the target, \
+             {above} above"
+        );
+        self.tally.judge(!all || below > 0 && above > 0, || {
+            format!("ties on one side are missing with {weights} weights")
+        });
+    }
 }
 
 /// Accuracies whose products are these numbers of points, and half a point more with both
@@ -147,7 +174,7 @@ fn around(full: u32, points: impl Iterator<Item = u32>) -> Vec<f64> {
 
 /// A query over this chart that no check but 11 stops. A plain one gives neither misses nor passed
 /// nor the holds passed.
-fn query(rng: &mut Rng, chart: Chart, turn: u64, plain: bool) -> Query {
+pub fn query(rng: &mut Rng, chart: Chart, turn: u64, plain: bool) -> Query {
     let holds = if plain {
         Holds::InFull
     } else {
@@ -175,6 +202,28 @@ fn query(rng: &mut Rng, chart: Chart, turn: u64, plain: bool) -> Query {
     q
 }
 
+/// A query over a chart of so many hits.
+fn small(rng: &mut Rng, hits: u32, turn: u64, plain: bool) -> Query {
+    let holds = rng.upto(hits - 1);
+    // The turn says, as in `query_over`, whether hold notes count twice.
+    let classic = turn >> 6 & 1 == 1;
+    let objects = if classic { hits } else { hits - holds };
+
+    query(rng, (objects, holds), turn, plain)
+}
+
+/// The turn of a query under own weights.
+fn own_turn(query: u64) -> u64 {
+    (query % 32) | ((query / 32 % 2) << 6)
+}
+
+/// Its weights: each weighting of the list for all turns, then random ones for as many.
+fn own_weights(rng: &mut Rng, query: u64) -> Weights {
+    let round = (query / OWN_TURNS) as usize % (2 * WEIGHTINGS.len());
+    let listed = WEIGHTINGS.get(round).copied();
+    listed.unwrap_or_else(|| stride_table::random_set(rng))
+}
+
 pub fn run(rng: &mut Rng) -> bool {
     let mut part = Part {
         tally: Tally::new("rising"),
@@ -187,12 +236,7 @@ pub fn run(rng: &mut Rng) -> bool {
     // Turns and hits go through all their values in about a quarter of the rows.
     while part.tally.inputs < size.random {
         let round = (queries / TURNS) as u32;
-        let hits = round % SMALL + 1;
-        let holds = part.rng.upto(hits - 1);
-        // The turn says, as in `query_over`, whether hold notes count twice.
-        let classic = queries >> 6 & 1 == 1;
-        let objects = if classic { hits } else { hits - holds };
-        let q = query(part.rng, (objects, holds), queries, round < SMALL);
+        let q = small(part.rng, round % SMALL + 1, queries, round < SMALL);
         part.every_target(&q);
         queries += 1;
     }
@@ -200,19 +244,35 @@ pub fn run(rng: &mut Rng) -> bool {
     for turn in 0..TURNS {
         if part.rng.one_in(size.one_in) {
             let q = query(part.rng, (CHART, CHART), turn, turn & 32 == 0);
-            let full = q.full_points();
-            let ends = (0..=ENDS).chain(full.saturating_sub(ENDS)..=full);
-            let between: Vec<_> = (0..BETWEEN).map(|_| part.rng.upto(full)).collect();
-            part.compare(&q, around(full, ends.chain(between)));
+            part.ends(&q);
             queries += 1;
         }
     }
 
-    let [below, above] = part.ties;
-    println!("rising: {queries} queries; {below} ties that went below the target, {above} above");
-    part.tally
-        .judge(size.one_in > 1 || below > 0 && above > 0, || {
-            String::from("ties on one side are missing")
-        });
+    part.tell_ties(queries, "the standard", size.one_in == 1);
+
+    // As many rows again, under own weights.
+    let rows = part.tally.inputs + size.random;
+    let mut queries = 0;
+
+    while part.tally.inputs < rows {
+        let own = own_weights(part.rng, queries);
+        let hits = part.rng.upto(SMALL - 1) + 1;
+        let plain = part.rng.one_in(2);
+        let q = small(part.rng, hits, own_turn(queries), plain);
+        part.every_target(&q.under(own));
+        queries += 1;
+    }
+
+    for turn in 0..2 * OWN_TURNS {
+        if part.rng.one_in(size.one_in) {
+            let own = own_sheets::weights(part.rng);
+            let q = query(part.rng, (CHART, CHART), own_turn(turn), turn < OWN_TURNS);
+            part.ends(&q.under(own));
+            queries += 1;
+        }
+    }
+
+    part.tell_ties(queries, "own", size.one_in == 1);
     part.tally.finish()
 }

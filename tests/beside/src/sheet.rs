@@ -1,17 +1,20 @@
-//! Document 01's sheet, with document 02's longer queries: how its bytes lie, and what the call that
-//! works it must answer.
+//! Document 01's sheet, with document 02's longer queries and own weights: how its bytes lie, and what
+//! the call that works it must answer.
 
 use std::{iter, ops::Range};
 
 use crate::{
     generate,
-    query::{Answer, Query},
+    query::{Answer, Query, Weights},
+    stride_table,
 };
 
 pub const CHARTS: usize = 256;
 pub const QUERIES: usize = 1_024;
 
-/// Bytes of a query and of an answer.
+/// Bytes of a chart, of own weights, of a query and of an answer.
+const CHART: usize = 8;
+pub const WEIGHTS: usize = 20;
 pub const ROW: usize = 48;
 pub const ANSWER: usize = 36;
 
@@ -70,8 +73,13 @@ pub fn row(index: usize, q: &Query) -> Row {
     row
 }
 
-/// A whole sheet.
+/// A whole sheet with the standard weights.
 pub fn bytes(charts: &[Chart], rows: &[Row]) -> Vec<u8> {
+    weighted(charts, None, rows)
+}
+
+/// A whole sheet, with own weights where there are some.
+pub fn weighted(charts: &[Chart], own: Option<Weights>, rows: &[Row]) -> Vec<u8> {
     let mut bytes = (charts.len() as u32).to_le_bytes().to_vec();
 
     for (n_objects, n_hold_notes) in charts {
@@ -79,21 +87,27 @@ pub fn bytes(charts: &[Chart], rows: &[Row]) -> Vec<u8> {
         bytes.extend(n_hold_notes.to_le_bytes());
     }
 
+    bytes.extend(u32::from(own.is_some()).to_le_bytes());
+    bytes.extend(own.iter().flatten().flat_map(|weight| weight.to_le_bytes()));
     bytes.extend((rows.len() as u32).to_le_bytes());
     bytes.extend(rows.as_flattened());
 
     bytes
 }
 
+/// Where the weights' count stands in a sheet of so many charts.
+pub fn weights_at(charts: usize) -> usize {
+    4 + CHART * charts
+}
+
 fn u32_at(bytes: &[u8], at: usize) -> u32 {
     u32::from_le_bytes(bytes[at..at + 4].try_into().unwrap())
 }
 
-fn answer(row: &[u8], charts: &[u8]) -> Answer {
+/// A row's query, or the number, 6 to 9, that stops it.
+fn query(row: &[u8], charts: &[u8], own: Option<Weights>) -> Result<Query, u32> {
     let index = u16::from_le_bytes([row[0], row[1]]);
-    let Some(chart) = charts.chunks_exact(8).nth(index.into()) else {
-        return Answer::refused(6);
-    };
+    let chart = charts.chunks_exact(CHART).nth(index.into()).ok_or(6_u32)?;
 
     let q = Query {
         n_objects: u32_at(chart, 0),
@@ -107,6 +121,7 @@ fn answer(row: &[u8], charts: &[u8]) -> Answer {
         passed: u32_at(row, 32),
         acc: f64::from_le_bytes(row[36..44].try_into().unwrap()),
         holds_passed: (row[HOLDS_GIVEN] == 1).then(|| u32_at(row, HOLDS_PASSED.start)),
+        own,
     };
 
     let nonzero = |bytes: Range<usize>| row[bytes].iter().any(|&byte| byte != 0);
@@ -116,13 +131,13 @@ fn answer(row: &[u8], charts: &[u8]) -> Answer {
     };
 
     if q.chart_over() {
-        Answer::refused(7)
+        Err(7)
     } else if q.method().is_none() || q.priority > 1 || row[4] > 1 {
-        Answer::refused(8)
+        Err(8)
     } else if holds_left || row[7] != 0 || missing(q.presence).any(nonzero) {
-        Answer::refused(9)
+        Err(9)
     } else {
-        generate::answer(&q)
+        Ok(q)
     }
 }
 
@@ -146,17 +161,44 @@ fn section<'a>(
     }
 }
 
-/// Every row's answer, or the number, 1 to 4, that refuses the sheet.
-pub fn answers(mut sheet: &[u8]) -> Result<Vec<Answer>, u32> {
-    let charts = section(&mut sheet, 8, CHARTS, 2)?;
+/// Takes the own weights, if there are any. All their bytes are there before they are judged.
+fn own_weights(sheet: &mut &[u8]) -> Result<Option<Weights>, u32> {
+    let section = section(sheet, WEIGHTS, 1, 18)?;
+
+    if section.is_empty() {
+        return Ok(None);
+    }
+
+    let own = std::array::from_fn(|i| u32_at(section, 4 * i));
+    stride_table::legal(&own).then_some(Some(own)).ok_or(18)
+}
+
+/// Every row's query or the number, 6 to 9, that stops it; or the number, 1 to 4 or 18, that refuses
+/// the sheet.
+pub fn queries(mut sheet: &[u8]) -> Result<Vec<Result<Query, u32>>, u32> {
+    let charts = section(&mut sheet, CHART, CHARTS, 2)?;
+    let own = own_weights(&mut sheet)?;
     let rows = section(&mut sheet, ROW, QUERIES, 3)?;
 
     if !sheet.is_empty() {
         return Err(4);
     }
 
-    let answers = rows.chunks_exact(ROW).map(|row| answer(row, charts));
-    Ok(answers.collect())
+    let queries = rows.chunks_exact(ROW).map(|row| query(row, charts, own));
+    Ok(queries.collect())
+}
+
+/// The answer to a row.
+pub fn answer(query: &Result<Query, u32>) -> Answer {
+    match query {
+        Ok(q) => generate::answer(q),
+        &Err(status) => Answer::refused(status),
+    }
+}
+
+/// Every row's answer, or the number, 1 to 4 or 18, that refuses the sheet.
+pub fn answers(sheet: &[u8]) -> Result<Vec<Answer>, u32> {
+    Ok(queries(sheet)?.iter().map(answer).collect())
 }
 
 /// The bytes of the answers.

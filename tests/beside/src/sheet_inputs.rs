@@ -3,9 +3,9 @@
 use crate::{
     holds_sheets,
     inputs::{self, Holds, Rng},
-    plays,
-    query::{CHART, Method, Query},
-    sheet::{self, CHARTS, Chart, HOLDS_GIVEN, HOLDS_PASSED, QUERIES, ROW, Row},
+    own_sheets, plays,
+    query::{CHART, Method, Query, Weights},
+    sheet::{self, CHARTS, Chart, HOLDS_GIVEN, HOLDS_PASSED, QUERIES, ROW, Row, WEIGHTS},
 };
 
 /// The most hits for which the Rust's Closest searches with three or more missing.
@@ -13,8 +13,9 @@ const SEARCHED: u32 = 300;
 
 const OVER_CHARTS: [usize; 6] = [257, 258, 512, 65_536, 1 << 31, u32::MAX as usize];
 const OVER_QUERIES: [usize; 6] = [1_025, 1_026, 2_048, 65_536, 1 << 31, u32::MAX as usize];
+pub const OVER_WEIGHTS: [usize; 7] = [2, 3, 255, 256, 65_536, 1 << 31, u32::MAX as usize];
 
-fn put_count(bytes: &mut [u8], at: usize, n: usize) {
+pub fn put_u32(bytes: &mut [u8], at: usize, n: usize) {
     bytes[at..at + 4].copy_from_slice(&(n as u32).to_le_bytes());
 }
 
@@ -31,13 +32,15 @@ pub fn example() -> Vec<u8> {
 }
 
 /// The gate's stored sheets by their files' names, in the order in which crates/stored_sheets prints
-/// them. Those of zeros are as large as allowed, with bytes after them: the program reads one of them.
+/// them. Those whose rows are zeros are full, with bytes after them: the program reads one byte more
+/// than a full sheet with own weights has.
 pub fn stored() -> Vec<(&'static str, Vec<u8>)> {
     let example = example();
-    let zeros = sheet::bytes(&vec![(0, 0); CHARTS], &vec![[0; ROW]; QUERIES]);
+    let zeros = |own| sheet::weighted(&vec![(0, 0); CHARTS], own, &vec![[0; ROW]; QUERIES]);
+    let (standard, own) = (zeros(None), zeros(Some([5, 4, 3, 2, 1])));
     let with = |bytes: &[u8], more: &[u8]| [bytes, more].concat();
 
-    vec![
+    let mut stored = vec![
         ("example.sheet", example.clone()),
         ("no_bytes.sheet", Vec::new()),
         ("no_queries.sheet", sheet::bytes(&[], &[])),
@@ -45,14 +48,18 @@ pub fn stored() -> Vec<(&'static str, Vec<u8>)> {
         ("charts_over.sheet", 257_u32.to_le_bytes().to_vec()),
         (
             "queries_over.sheet",
-            with(&[0; 4], &1_025_u32.to_le_bytes()),
+            with(&[0; 8], &1_025_u32.to_le_bytes()),
         ),
         ("one_byte_follows.sheet", with(&example, &[0])),
         ("full.sheet", full(&mut Rng::new(1))),
-        ("full_one_follows.sheet", with(&zeros, &[0])),
-        ("full_two_follow.sheet", with(&zeros, &[0; 2])),
+        ("full_one_follows.sheet", with(&own, &[0])),
+        ("full_two_follow.sheet", with(&own, &[0; 2])),
         ("holds_passed.sheet", holds_sheets::stored()),
-    ]
+        ("full_standard_one_follows.sheet", with(&standard, &[0])),
+        ("full_standard_22_follow.sheet", with(&standard, &[0; 22])),
+    ];
+    stored.extend(own_sheets::stored());
+    stored
 }
 
 /// The sheets that every run takes.
@@ -67,6 +74,7 @@ pub fn fixed(visit: &mut dyn FnMut(&[u8])) {
     documented(visit);
     visit(&left_over());
     holds_sheets::fixed(rng, visit);
+    own_sheets::fixed(rng, visit);
 }
 
 /// A row for each method, over two charts.
@@ -89,22 +97,23 @@ fn cuts(rng: &mut Rng, visit: &mut dyn FnMut(&[u8])) {
     let mut every_cut = |bytes: &[u8]| (0..=bytes.len()).for_each(|len| visit(&bytes[..len]));
     every_cut(&bytes);
 
-    for (at, counts) in [(0, OVER_CHARTS), (4 + 8 * charts.len(), OVER_QUERIES)] {
+    let queries = sheet::weights_at(charts.len()) + 4;
+
+    for (at, counts) in [(0, OVER_CHARTS), (queries, OVER_QUERIES)] {
         for count in counts {
             let mut bytes = bytes.clone();
-            put_count(&mut bytes, at, count);
+            put_u32(&mut bytes, at, count);
             every_cut(&bytes);
         }
     }
 }
 
-/// Sheets as large as allowed and larger, with all their bytes or one less or more; the last are
-/// longer than the program reads.
+/// Sheets as large as allowed and larger, with all their bytes or one less or more, without own weights
+/// and with them; the last are longer than the program reads.
 fn limits(rng: &mut Rng, visit: &mut dyn FnMut(&[u8])) {
     let charts = [(20, 0), (5, 3)];
     let rows = four(rng, charts);
-
-    for (n_charts, n_rows) in [
+    let numbers = [
         (0, 0),
         (0, 1),
         (1, 0),
@@ -115,14 +124,20 @@ fn limits(rng: &mut Rng, visit: &mut dyn FnMut(&[u8])) {
         (CHARTS, QUERIES),
         (CHARTS + 1, QUERIES),
         (CHARTS, QUERIES + 1),
-    ] {
+    ];
+
+    for (own, (n_charts, n_rows)) in [None, Some([5, 4, 3, 2, 1])]
+        .into_iter()
+        .flat_map(|own| numbers.map(|numbers| (own, numbers)))
+    {
         let charts: Vec<_> = charts.into_iter().cycle().take(n_charts).collect();
         let rows: Vec<_> = rows.iter().copied().cycle().take(n_rows).collect();
-        let mut bytes = sheet::bytes(&charts, &rows);
+        let mut bytes = sheet::weighted(&charts, own, &rows);
         visit(&bytes[..bytes.len() - 1]);
         visit(&bytes);
 
-        for more in [1, 1, ROW, 100_000] {
+        // With 21 bytes more, a full sheet with the standard weights has as many as the program reads.
+        for more in [1, 1, 19, 1, ROW, 100_000] {
             bytes.extend(vec![0; more]);
             visit(&bytes);
         }
@@ -196,7 +211,7 @@ pub fn left_over() -> Vec<u8> {
     own_charts(&queries)
 }
 
-/// A sheet of these queries, each with a chart of its own.
+/// A sheet of these queries, each with a chart of its own. Its weights are the first query's.
 pub fn own_charts(queries: &[Query]) -> Vec<u8> {
     let charts: Vec<_> = queries
         .iter()
@@ -208,7 +223,7 @@ pub fn own_charts(queries: &[Query]) -> Vec<u8> {
         .map(|(i, q)| sheet::row(i, q))
         .collect();
 
-    sheet::bytes(&charts, &rows)
+    sheet::weighted(&charts, queries[0].own, &rows)
 }
 
 /// A chart: small, so large that Closest's search is long, at the limit, or over it.
@@ -243,8 +258,9 @@ fn query(rng: &mut Rng, chart: Chart, method: Method, holds: Holds) -> Query {
     }
 }
 
-/// A random row; one in eight breaks a check of the direct call, one in four has damaged bytes.
-fn row(rng: &mut Rng, charts: &[Chart], holds: Holds) -> Row {
+/// A random row of a sheet with these charts and own weights, if there are any; one in eight breaks a
+/// check of the direct call, one in four has damaged bytes.
+fn row(rng: &mut Rng, charts: &[Chart], own: Option<Weights>, holds: Holds) -> Row {
     let index = if charts.is_empty() || rng.one_in(32) {
         charts.len() + rng.upto(1) as usize
     } else {
@@ -254,6 +270,11 @@ fn row(rng: &mut Rng, charts: &[Chart], holds: Holds) -> Row {
     let method = rng.pick(&Method::ALL);
     let chart = charts.get(index).copied().unwrap_or((5, 0));
     let mut q = query(rng, chart, method, holds);
+
+    if let Some(own) = own {
+        q = q.under(own);
+        inputs::give_acc(rng, &mut q);
+    }
 
     if rng.one_in(8) {
         inputs::spoil(rng, &mut q);
@@ -311,13 +332,14 @@ fn damage(rng: &mut Rng, row: &mut Row) {
 pub fn full(rng: &mut Rng) -> Vec<u8> {
     let charts: Vec<_> = (0..CHARTS).map(|_| chart(rng)).collect();
     let rows: Vec<_> = (0..QUERIES)
-        .map(|_| row(rng, &charts, Holds::InFull))
+        .map(|_| row(rng, &charts, None, Holds::InFull))
         .collect();
 
     sheet::bytes(&charts, &rows)
 }
 
-/// A random sheet; one in 400 is full, and one in three is damaged as a whole.
+/// A random sheet; one in 400 is full, one in three has own weights, and one in three is damaged as a
+/// whole.
 pub fn random(rng: &mut Rng) -> Vec<u8> {
     let (charts, rows) = match rng.upto(399) {
         0 => (CHARTS, QUERIES),
@@ -326,28 +348,34 @@ pub fn random(rng: &mut Rng) -> Vec<u8> {
         _ => (rng.upto(4) as usize, rng.upto(10) as usize),
     };
 
+    let own = rng.one_in(3).then(|| own_sheets::weights(rng));
     let charts: Vec<_> = (0..charts).map(|_| chart(rng)).collect();
     let rows: Vec<_> = (0..rows)
-        .map(|_| row(rng, &charts, Holds::OneInFour))
+        .map(|_| row(rng, &charts, own, Holds::OneInFour))
         .collect();
-    let mut bytes = sheet::bytes(&charts, &rows);
+    let mut bytes = sheet::weighted(&charts, own, &rows);
 
     if rng.one_in(3) {
-        spoil(rng, &mut bytes, charts.len(), rows.len());
+        spoil(
+            rng,
+            &mut bytes,
+            [charts.len(), own.iter().len(), rows.len()],
+        );
     }
 
     bytes
 }
 
-/// Damages a sheet as a whole.
-fn spoil(rng: &mut Rng, bytes: &mut Vec<u8>, charts: usize, rows: usize) {
-    let queries = 4 + 8 * charts;
+/// Damages a sheet of so many charts, own weights and rows as a whole.
+fn spoil(rng: &mut Rng, bytes: &mut Vec<u8>, [charts, own, rows]: [usize; 3]) {
+    let weights = sheet::weights_at(charts);
+    let queries = weights + 4 + WEIGHTS * own;
 
-    match rng.upto(6) {
-        0 => put_count(bytes, 0, rng.pick(&OVER_CHARTS)),
-        1 => put_count(bytes, queries, rng.pick(&OVER_QUERIES)),
-        2 => put_count(bytes, 0, rng.pick(&[charts + 1, charts.saturating_sub(1)])),
-        3 => put_count(
+    match rng.upto(9) {
+        0 => put_u32(bytes, 0, rng.pick(&OVER_CHARTS)),
+        1 => put_u32(bytes, queries, rng.pick(&OVER_QUERIES)),
+        2 => put_u32(bytes, 0, rng.pick(&[charts + 1, charts.saturating_sub(1)])),
+        3 => put_u32(
             bytes,
             queries,
             rng.pick(&[rows + 1, rows.saturating_sub(1)]),
@@ -355,6 +383,12 @@ fn spoil(rng: &mut Rng, bytes: &mut Vec<u8>, charts: usize, rows: usize) {
         4 => bytes.extend((0..=rng.upto(90)).map(|_| rng.next() as u8)),
         // Too few bytes for a row, so that no long search comes about.
         5 => *bytes = (0..rng.upto(55)).map(|_| rng.next() as u8 & 1).collect(),
+        6 => put_u32(bytes, weights, rng.pick(&OVER_WEIGHTS)),
+        7 => put_u32(bytes, weights, 1 - own),
+        8 if own == 1 => {
+            let at = weights + 4 + 4 * rng.upto(4) as usize;
+            put_u32(bytes, at, rng.pick(&[0, 1, 50, 100, 101, 256, 1 << 31]));
+        }
         _ => {}
     }
 

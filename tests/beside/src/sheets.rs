@@ -1,14 +1,15 @@
 //! Part sheets: the library's sheet call, and for a sample of the sheets the program `sheet`,
-//! beside document 01's reading of a sheet over the Rust's generators, byte for byte.
+//! beside document 01's reading of a sheet over the Rust's generators, byte for byte. The answers of
+//! Nearest, under own weights too, are judged as in part nearest.
 
 use std::io;
 
 use crate::{
     holds_sheets,
     inputs::{Rng, Size},
-    ours, plays,
+    nearest, ours, own_sheets, plays,
     program::{self, Program, hex},
-    query::Answer,
+    query::{Answer, Method},
     sheet::{self, ANSWER, QUERIES},
     sheet_inputs,
     tally::{Tally, first_wrong},
@@ -20,8 +21,11 @@ const SENTINEL: u8 = 0xA5;
 /// The memory on both sides of an output.
 const AROUND: usize = 16;
 
-/// The most that the program reads.
-const READ: usize = 51_209;
+/// The most that the program reads, a byte more than a full sheet with own weights has.
+const READ: usize = 51_233;
+
+/// A full sheet with the standard weights.
+const FULL: usize = 51_212;
 
 /// What document 01 prints for its example, with document 02's left.
 const EXAMPLE: &str = "query status n320 n300 n200 n100 n50 misses tried left
@@ -39,7 +43,11 @@ struct Part<'a> {
 impl Part<'_> {
     /// Compares a sheet with outputs of the exact length, longer, and too short.
     fn compare(&mut self, bytes: &[u8]) {
-        let answers = sheet::answers(bytes);
+        let queries = sheet::queries(bytes);
+        let answers = queries
+            .as_ref()
+            .map(|queries| queries.iter().map(sheet::answer).collect::<Vec<_>>())
+            .map_err(|&status| status);
         let exact = answers.as_ref().map_or(2 * ANSWER, |a| ANSWER * a.len());
         let longer = exact + 1 + self.rng.upto(80) as usize;
 
@@ -55,8 +63,16 @@ impl Part<'_> {
         }
 
         // Full sheets and larger ones all go through the program.
-        if bytes.len() >= READ - 1 || self.rng.one_in(48) {
+        if bytes.len() >= FULL || self.rng.one_in(48) {
             self.run(bytes);
+        }
+
+        for (q, answer) in queries.iter().flatten().zip(answers.iter().flatten()) {
+            if let Ok(q) = q
+                && q.method() == Some(Method::Nearest)
+            {
+                nearest::judge(&mut self.tally, q, answer);
+            }
         }
     }
 
@@ -94,8 +110,9 @@ impl Part<'_> {
     fn one_row(&mut self) {
         let left_over = plays::left_over().into_iter().map(|(q, _)| q);
         let with_holds = plays::with_holds().into_iter().map(|(q, _)| q);
+        let with_own_weights = plays::with_own_weights().into_iter().map(|(q, _)| q);
 
-        for q in left_over.chain(with_holds) {
+        for q in left_over.chain(with_holds).chain(with_own_weights) {
             let bytes = sheet_inputs::own_charts(&[q]);
             let answers = sheet::answers(&bytes);
             self.tally.inputs += 1;
@@ -125,6 +142,46 @@ impl Part<'_> {
             self.compare(&bytes);
             self.run(&bytes);
         }
+    }
+
+    /// Compares rows and sheets with own weights, whose answers or statuses are told by hand.
+    fn own_told_by_hand(&mut self) {
+        for (_, bytes) in own_sheets::stored() {
+            self.run(&bytes);
+        }
+
+        for (q, right) in plays::with_own_weights() {
+            let bytes = sheet_inputs::own_charts(&[q]);
+            let answers = sheet::answers(&bytes);
+            self.tally.judge(answers == Ok(vec![right]), || {
+                format!("{q}: {answers:?}, by hand {right}")
+            });
+            self.compare(&bytes);
+            self.run(&bytes);
+        }
+
+        for (own, classic) in own_sheets::WEIGHTINGS
+            .into_iter()
+            .flat_map(|own| [false, true].map(|classic| (own, classic)))
+        {
+            let (rows, right): (Vec<_>, Vec<_>) = own_sheets::told(classic).unzip();
+            let bytes = sheet::weighted(&holds_sheets::TOLD_CHARTS, Some(own), &rows);
+            let answers = sheet::answers(&bytes).unwrap_or_default();
+            let statuses: Vec<_> = answers.iter().map(|answer| answer.status).collect();
+            self.tally.judge(statuses == right, || {
+                format!("own weights {own:?}: statuses {statuses:?}, by hand {right:?}")
+            });
+            self.compare(&bytes);
+            self.run(&bytes);
+        }
+
+        own_sheets::told_sheets(&mut |bytes, right| {
+            let status = sheet::answers(bytes).err().unwrap_or(0);
+            self.tally.judge(status == right, || {
+                format!("status {status}, by hand {right}; {}", hex(bytes))
+            });
+            self.compare(bytes);
+        });
     }
 
     /// Compares what the program prints.
@@ -177,6 +234,7 @@ pub fn run(rng: &mut Rng) -> bool {
     part.run(&holds_sheets::stored());
     part.one_row();
     part.told_by_hand();
+    part.own_told_by_hand();
 
     sheet_inputs::fixed(&mut |bytes| part.compare(bytes));
 

@@ -8,12 +8,10 @@ use crate::{
     inputs::{Rng, Size},
     ours,
     program::{self, Program},
+    query::Weights,
     strides,
     tally::{Tally, first_wrong},
 };
-
-/// Five weights, from n320 to n50.
-type Set = [u32; 5];
 
 /// The numbers of a table.
 const TABLE: usize = 320;
@@ -25,13 +23,13 @@ const READ: usize = 41;
 const SENTINEL: u32 = 0x5E17_1CED;
 const AROUND: usize = 4;
 
-const STANDARD: [Set; 2] = [[61, 60, 40, 20, 10], [60, 60, 40, 20, 10]];
+const STANDARD: [Weights; 2] = [[61, 60, 40, 20, 10], [60, 60, 40, 20, 10]];
 
 /// The first folds, the second does not.
-const OWN: [Set; 2] = [[90, 90, 50, 30, 5], [100, 73, 41, 17, 1]];
+const OWN: [Weights; 2] = [[90, 90, 50, 30, 5], [100, 73, 41, 17, 1]];
 
 /// "The first two may be equal ..; otherwise weights fall strictly, from at most 100 to at least 1."
-fn legal(set: &Set) -> bool {
+pub fn legal(set: &Weights) -> bool {
     let [first, second, ..] = *set;
     let strictly = set[1..].windows(2).all(|pair| pair[0] > pair[1]);
 
@@ -39,7 +37,7 @@ fn legal(set: &Set) -> bool {
 }
 
 /// The table's 320 numbers, or 18.
-fn table(sets: &[Set; 2]) -> Result<Vec<u32>, u32> {
+fn table(sets: &[Weights; 2]) -> Result<Vec<u32>, u32> {
     if !sets.iter().all(legal) {
         return Err(18);
     }
@@ -50,7 +48,7 @@ fn table(sets: &[Set; 2]) -> Result<Vec<u32>, u32> {
     Ok(rows.flatten().map(|stride| stride as u32).collect())
 }
 
-fn bytes(sets: &[Set; 2]) -> Vec<u8> {
+fn bytes(sets: &[Weights; 2]) -> Vec<u8> {
     let weights = sets.as_flattened().iter();
     weights.flat_map(|weight| weight.to_le_bytes()).collect()
 }
@@ -82,7 +80,7 @@ struct Part<'a> {
 impl Part<'_> {
     /// Compares the call with buffers of the exact length, longer and too short: its answer, and
     /// all the memory around and in the buffer.
-    fn compare(&mut self, sets: &[Set; 2]) {
+    fn compare(&mut self, sets: &[Weights; 2]) {
         let table = table(sets);
         let any = self.rng.upto(400) as usize;
         self.tally.inputs += 1;
@@ -118,7 +116,7 @@ impl Part<'_> {
     }
 
     /// Each kind of bad weight in each of the ten places, and in two of them at once.
-    fn bad(&mut self, legal: &[Set; 2]) {
+    fn bad(&mut self, legal: &[Weights; 2]) {
         for set in 0..2 {
             for place in 0..5 {
                 let good = legal[set];
@@ -152,30 +150,31 @@ impl Part<'_> {
     }
 
     /// All sets of five numbers from `least` on, `span` of them, in either place beside another.
-    fn all(&mut self, least: u32, span: u32, other: Set) {
+    fn all(&mut self, least: u32, span: u32, other: Weights) {
         for number in 0..span.pow(5) {
             let set = std::array::from_fn(|place| least + number / span.pow(place as u32) % span);
             self.compare(&[set, other]);
             self.compare(&[other, set]);
         }
     }
+}
 
-    fn random_set(&mut self) -> Set {
-        let mut left: Vec<u32> = (1..=100).collect();
-        let mut set = [0; 5];
+/// Weights that fall as L4 asks; one in three has its first two equal.
+pub fn random_set(rng: &mut Rng) -> Weights {
+    let mut left: Vec<u32> = (1..=100).collect();
+    let mut set = [0; 5];
 
-        for weight in &mut set {
-            *weight = left.swap_remove(self.rng.upto(left.len() as u32 - 1) as usize);
-        }
-
-        set.sort_unstable_by(|x, y| y.cmp(x));
-
-        if self.rng.one_in(3) {
-            set[1] = set[0];
-        }
-
-        set
+    for weight in &mut set {
+        *weight = left.swap_remove(rng.upto(left.len() as u32 - 1) as usize);
     }
+
+    set.sort_unstable_by(|x, y| y.cmp(x));
+
+    if rng.one_in(3) {
+        set[1] = set[0];
+    }
+
+    set
 }
 
 /// The gate's stored weights.
@@ -229,7 +228,7 @@ pub fn run(rng: &mut Rng) -> bool {
     }
 
     for _ in 0..size.random {
-        let sets = [part.random_set(), part.random_set()];
+        let sets = [random_set(part.rng), random_set(part.rng)];
         part.compare(&sets);
 
         if part.rng.one_in(50) {

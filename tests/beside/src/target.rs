@@ -49,15 +49,12 @@ pub fn limits(mut visit: impl FnMut(&Query)) {
                         visit(&Query {
                             n_objects,
                             n_hold_notes,
-                            method: 0,
-                            priority: 0,
                             classic,
                             presence,
-                            counts: [0; 5],
                             misses: misses.unwrap_or(u32::MAX),
                             passed: passed.unwrap_or(0),
                             acc,
-                            holds_passed: None,
+                            ..Query::default()
                         });
                     }
                 }

@@ -1,50 +1,23 @@
--- `direct::generate` meets its contract. Assumes nothing.
-use Prim.Native.Nat.{ℕ, _≤_}
-use mathlib.Core.List.{List}
-use native.Mathlib.Omega.{arith}
-use native.Mathlib.Nat.{not-le-of-lt}
-use mathlib.Core.Path.{_≡_, ap, _∙_}
-use lib.ListN.{length}
-use Rattle.generate.specs.Generated.{generatedOf}
-use Rattle.score_state.specs.Answer.{Answer}
-use Rattle.generate_laws.specs.Generate.{generateAnswer}
-use Rattle.direct.specs.Direct.{sixCounts, queryBy, handed}
-use Rattle.direct.proofs.Handed.{handed-short, answer-numbered}
+-- `direct::generate` meets its contract: the weights are the standard ones. Assumes nothing.
+use mathlib.Core.Path.{sym, subst}
+use Rattle.nearest_laws.specs.Nearest.{Weighting, standard-weighting}
+use Rattle.generate_laws.specs.Generate.{answerBy, generateAnswer}
 use borrow.Author.Needs.{needs}
 use Rattle.direct.proofs.generate.Statement.{statement}
 use Rattle.direct.proofs.generate.Tie as tie
 
-returns : tie.Need-returns
-returns c =
-    let x = c .before .before .args in
-    let q = queryBy (x .objects) (x .holds) (x .method) (x .priority) (x .classic) (x .presence) (sixCounts (x .n320) (x .n300) (x .n200) (x .n100) (x .n50) (x .misses)) (x .passed) (x .holds-given) (x .holds-passed) (x .acc) in
-    (handed-short 8 (generateAnswer q) (x .out .now) (c .if1 .taken), λ (h : 8 ≤ length (x .out .now)). absurd (not-le-of-lt (c .if1 .taken) h))
+standard-weights-requires : tie.Need-standard-weights-requires
+standard-weights-requires c κs = tt
 
-acc-of-requires : tie.Need-acc-of-requires
-acc-of-requires c κs = tt
-
-holds-of-requires : tie.Need-holds-of-requires
-holds-of-requires c κs = tt
-
-generate-requires : tie.Need-generate-requires
-generate-requires c κs = tt
-
-hand-requires : tie.Need-hand-requires
-hand-requires c κs = (answer-numbered _ (c .before .generate .result) (c .before .generate .ensures), omega arith)
+scored-requires : tie.Need-scored-requires
+scored-requires c κs = subst Weighting (sym (c .before .standard-weights .ensures .0)) (standard-weighting (c .before .before .before .args .classic))
 
 same-length : tie.Need-same-length
 same-length c = search needs
 
--- the query that is handed over is the one of these numbers
-returns-2 : tie.Need-returns-2
-returns-2 c =
-    let x = c .before .before .before .before .before .before .before .before .before .args in
-    let q = queryBy (x .objects) (x .holds) (x .method) (x .priority) (x .classic) (x .presence) (sixCounts (x .n320) (x .n300) (x .n200) (x .n100) (x .n50) (x .misses)) (x .passed) (x .holds-given) (x .holds-passed) (x .acc) in
-    let e : generatedOf (c .before .before .before .before .generate .result) ≡ generateAnswer q =
-    c .before .before .before .before .generate .ensures ∙ rw (c .before .before .before .before .before .before .acc-of .ensures, c .before .before .before .before .before .holds-of .ensures) in
-    (c .before .before .hand .ensures .0 ∙ ap (λ (a : Answer (List ℕ)). handed 8 a (x .out .now)) e, λ (h : 8 ≤ length (x .out .now)). c .before .before .hand .ensures .1 ∙ e)
+returns : tie.Need-returns
+unfolding generateAnswer answerBy
+returns c = rw (c .before .before .before .before .standard-weights .ensures .0) at (c .before .before .scored .ensures .0)
 
 pub generate-spec : {M : Type 1} → statement M
-generate-spec =
-    tie.close
-    (tie.spec returns acc-of-requires holds-of-requires generate-requires hand-requires same-length returns-2)
+generate-spec = tie.close (tie.spec standard-weights-requires scored-requires same-length returns)

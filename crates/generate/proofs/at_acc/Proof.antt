@@ -2,6 +2,7 @@
 use Prim.Native.Nat.{ℕ}
 use mathlib.Core.Path.{sym, ap, _∙_}
 use native.Mathlib.Omega.{arith}
+use Rattle.score_state.specs.Points.{weightsOf}
 use Rattle.inspect.specs.Inspect.{inspectOf}
 use Rattle.generate_laws.specs.Generate.{byMethod}
 use Rattle.generate_laws.proofs.Answered.{fast-at, closest-at, nearest-at}
@@ -22,19 +23,19 @@ nearest-counts-requires c κs = search needs
 returns : tie.Need-returns
 returns c =
     let x = c .before .before .args in
-    let e = fast-at (inspectOf (x .q)) (x .acc) (c .generate-hitresults .result) (c .before .before .pre .1 .1 .1 .1) (c .generate-hitresults .ensures) in
-    e ∙ ap (λ (m : ℕ). byMethod m (inspectOf (x .q))) (sym (c .before .match .keys1))
+    let e = fast-at (weightsOf (x .weights)) (inspectOf (x .q)) (x .acc) (c .generate-hitresults .result) (c .before .before .pre .1 .1 .1 .0 .1) (c .generate-hitresults .ensures) in
+    e ∙ ap (λ (m : ℕ). byMethod (weightsOf (x .weights)) m (inspectOf (x .q))) (sym (c .before .match .keys1))
 
 returns-2 : tie.Need-returns-2
 returns-2 c =
     let x = c .before .before .args in
-    let e = closest-at (inspectOf (x .q)) (x .acc) (generatedOf (c .closest-counts .result)) (c .before .before .pre .1 .1 .1 .1) (c .closest-counts .ensures) in
-    e ∙ ap (λ (m : ℕ). byMethod m (inspectOf (x .q))) (sym (c .before .match .keys2))
+    let e = closest-at (weightsOf (x .weights)) (inspectOf (x .q)) (x .acc) (generatedOf (c .closest-counts .result)) (c .before .before .pre .1 .1 .1 .0 .1) (c .closest-counts .ensures) in
+    e ∙ ap (λ (m : ℕ). byMethod (weightsOf (x .weights)) m (inspectOf (x .q))) (sym (c .before .match .keys2))
 
 returns-3 : tie.Need-returns-3
 returns-3 c =
     let x = c .before .before .args in
-    nearest-at (x .method) (inspectOf (x .q)) (x .acc) (generatedOf (c .nearest-counts .result)) (omega arith) (c .before .before .pre .1 .1 .1 .1) (c .nearest-counts .ensures)
+    nearest-at (weightsOf (x .weights)) (x .method) (inspectOf (x .q)) (x .acc) (generatedOf (c .nearest-counts .result)) (omega arith) (c .before .before .pre .1 .1 .1 .0 .1) (c .nearest-counts .ensures)
 
 pub at-acc-spec : {M : Type 1} → statement M
 at-acc-spec =

@@ -14,13 +14,13 @@ chart-in-requires : tie.Need-chart-in-requires
 chart-in-requires c κs = search needs
 
 found-answer-requires : tie.Need-found-answer-requires
-found-answer-requires c κs = tt
+found-answer-requires c κs = c .before .before .before .pre .1
 
 returns : tie.Need-returns
-returns c = c .found-answer .ensures ∙ ap (foundAnswer (c .before .before .before .before .args .row)) (c .before .chart-in .ensures) ∙ row-found (c .before .before .before .before .args .row) (c .before .before .before .before .args .charts) (c .before .before .before .before .args .n) (omega arith) (omega arith)
+returns c = c .found-answer .ensures ∙ ap (foundAnswer (c .before .before .before .before .args .scoring) (c .before .before .before .before .args .row)) (c .before .chart-in .ensures) ∙ row-found (c .before .before .before .before .args .scoring) (c .before .before .before .before .args .row) (c .before .before .before .before .args .charts) (c .before .before .before .before .args .n) (omega arith) (omega arith)
 
 returns-2 : tie.Need-returns-2
-returns-2 c = row-stopped (c .before .before .args .row) (c .before .before .args .charts) (c .before .before .args .n) (omega arith) (omega arith)
+returns-2 c = row-stopped (c .before .before .args .scoring) (c .before .before .args .row) (c .before .before .args .charts) (c .before .before .args .n) (omega arith) (omega arith)
 
 pub row-answer-spec : {M : Type 1} → statement M
 row-answer-spec =

@@ -1,21 +1,30 @@
 -- `sheets::sheet_stop` meets its contract. Assumes nothing.
+use Prim.Native.Nat.{ℕ, _+_, _*_}
+use mathlib.Core.Path.{_≡_, sym, ap, _∙_}
 use native.Mathlib.Omega.{arith}
+use Rattle.little_endian.specs.Bytes.{u32At}
+use Rattle.sheets_laws.specs.Sheets.{scoringAt, scoringStop, queriesStop, queriesAt}
+use Rattle.sheets_laws.proofs.Accepted.{ChartsIn, charts-in, ScoringIn, scoring-in}
+use Rattle.sheets_laws.proofs.Stops.{stops-in-charts, stops-in-scoring, stops-in-queries}
 use borrow.Author.Needs.{needs}
-use Rattle.sheets_laws.proofs.Stops.{ends-in-count, charts-over, ends-in-charts, ends-in-second, queries-over, ends-in-queries, bytes-follow, no-room, no-stop}
 use Rattle.sheets.proofs.sheet_stop.Statement.{statement}
 use Rattle.sheets.proofs.sheet_stop.Tie as tie
 
+charts-stop-requires : tie.Need-charts-stop-requires
+charts-stop-requires c κs = tt
+
 returns : tie.Need-returns
-returns c = ends-in-count (c .before .before .args .sheet .now) (c .before .before .args .room) (omega arith)
+returns c = stops-in-charts (c .before .before .before .args .sheet .now) (c .before .before .before .args .room) (c .before .charts-stop .result) (c .before .charts-stop .ensures) (c .if1 .taken)
+
+-- what the checks of the charts leave
+charts : (c : tie.Else1) → ChartsIn (c .before .before .before .args .sheet .now)
+charts c = let z : c .before .charts-stop .result ≡ 0 = omega arith in charts-in (c .before .before .before .args .sheet .now) (sym (c .before .charts-stop .ensures) ∙ z)
 
 word-from-requires : tie.Need-word-from-requires
-word-from-requires c κs = search needs
+word-from-requires c κs = charts c .counted
 
-cast-charts : tie.Need-cast-charts
-cast-charts c = search needs
-
-returns-2 : tie.Need-returns-2
-returns-2 c = charts-over (c .before .before .before .before .args .sheet .now) (c .before .before .before .before .args .room) (c .before .word-from .result) (c .before .word-from .ensures) (omega arith) (omega arith)
+cast-at : tie.Need-cast-at
+cast-at c = search needs
 
 mul-at : tie.Need-mul-at
 mul-at c = search needs
@@ -23,69 +32,48 @@ mul-at c = search needs
 add-at : tie.Need-add-at
 add-at c = search needs
 
+scoring-stop-requires : tie.Need-scoring-stop-requires
+scoring-stop-requires c κs = omega (arith, charts (c .before) .few, c .word-from .ensures)
+
+-- the number of the checks of own weights is that of the sheet's section
+scoring-is : (c : tie.After-scoring-stop) → c .scoring-stop .result ≡ scoringStop (c .before .before .before .before .before .args .sheet .now) (scoringAt (c .before .before .before .before .before .args .sheet .now))
+scoring-is c = c .scoring-stop .ensures ∙ ap (λ (a : ℕ). scoringStop (c .before .before .before .before .before .args .sheet .now) (4 + 8 * a)) (c .before .word-from .ensures)
+
+returns-2 : tie.Need-returns-2
+returns-2 c =
+    let x = c .before .before .before .before .before .before .args in
+    stops-in-scoring (x .sheet .now) (x .room) (c .before .before .before .before .charts-stop .result) (c .before .before .before .before .charts-stop .ensures) (c .before .before .before .if1 .left) (c .before .scoring-stop .result) (scoring-is (c .before)) (c .if2 .taken)
+
+-- what they leave
+scoring : (c : tie.Else2) → ScoringIn (c .before .before .before .before .before .before .args .sheet .now) (4 + 8 * c .before .before .word-from .result)
+scoring c = let z : c .before .scoring-stop .result ≡ 0 = omega arith in scoring-in (c .before .before .before .before .before .before .args .sheet .now) (4 + 8 * c .before .before .word-from .result) (sym (c .before .scoring-stop .ensures) ∙ z)
+
+queries-at-requires : tie.Need-queries-at-requires
+queries-at-requires c κs = (omega (arith, charts (c .before .before .before) .few, c .before .before .word-from .ensures), scoring c .counted, scoring c .few)
+
+queries-stop-requires : tie.Need-queries-stop-requires
+queries-stop-requires c κs = c .queries-at .ensures .1
+
 returns-3 : tie.Need-returns-3
-returns-3 c = ends-in-charts (c .before .before .before .before .before .args .sheet .now) (c .before .before .before .before .before .args .room) (c .before .before .word-from .result) (c .before .before .word-from .ensures) (omega arith) (omega arith) (omega arith)
-
-add-if4 : tie.Need-add-if4
-add-if4 c = search needs
-
-returns-4 : tie.Need-returns-4
-returns-4 c = ends-in-second (c .before .before .before .before .before .before .args .sheet .now) (c .before .before .before .before .before .before .args .room) (c .before .before .before .word-from .result) (c .before .before .before .word-from .ensures) (omega arith) (omega arith) (omega arith) (omega arith)
-
-word-from-requires-2 : tie.Need-word-from-requires-2
-word-from-requires-2 c κs = search needs
-
-cast-queries : tie.Need-cast-queries
-cast-queries c = search needs
-
-returns-5 : tie.Need-returns-5
-returns-5 c = queries-over (c .before .before .before .before .before .before .before .before .args .sheet .now) (c .before .before .before .before .before .before .before .before .args .room) (c .before .before .before .before .before .word-from .result) (c .before .before .before .before .before .word-from .ensures) (omega arith) (omega arith) (c .before .word-from2 .result) (c .before .word-from2 .ensures) (omega arith) (omega arith) (omega arith)
-
-add-end : tie.Need-add-end
-add-end c = search needs
-
-mul-end : tie.Need-mul-end
-mul-end c = search needs
-
-add-end-2 : tie.Need-add-end-2
-add-end-2 c = search needs
-
-returns-6 : tie.Need-returns-6
-returns-6 c = ends-in-queries (c .before .before .before .before .before .before .before .before .before .args .sheet .now) (c .before .before .before .before .before .before .before .before .before .args .room) (c .before .before .before .before .before .before .word-from .result) (c .before .before .before .before .before .before .word-from .ensures) (omega arith) (omega arith) (c .before .before .word-from2 .result) (c .before .before .word-from2 .ensures) (omega arith) (omega arith) (omega arith) (omega arith)
-
-returns-7 : tie.Need-returns-7
-returns-7 c = bytes-follow (c .before .before .before .before .before .before .before .before .before .before .args .sheet .now) (c .before .before .before .before .before .before .before .before .before .before .args .room) (c .before .before .before .before .before .before .before .word-from .result) (c .before .before .before .before .before .before .before .word-from .ensures) (omega arith) (omega arith) (c .before .before .before .word-from2 .result) (c .before .before .before .word-from2 .ensures) (omega arith) (omega arith) (omega arith) (omega arith) (omega arith)
-
-mul-if8 : tie.Need-mul-if8
-mul-if8 c = search needs
-
-returns-8 : tie.Need-returns-8
-returns-8 c = no-room (c .before .before .before .before .before .before .before .before .before .before .before .args .sheet .now) (c .before .before .before .before .before .before .before .before .before .before .before .args .room) (c .before .before .before .before .before .before .before .before .word-from .result) (c .before .before .before .before .before .before .before .before .word-from .ensures) (omega arith) (omega arith) (c .before .before .before .before .word-from2 .result) (c .before .before .before .before .word-from2 .ensures) (omega arith) (omega arith) (omega arith) (omega arith) (omega arith) (omega arith)
-
-returns-9 : tie.Need-returns-9
-returns-9 c = no-stop (c .before .before .before .before .before .before .before .before .before .before .before .args .sheet .now) (c .before .before .before .before .before .before .before .before .before .before .before .args .room) (c .before .before .before .before .before .before .before .before .word-from .result) (c .before .before .before .before .before .before .before .before .word-from .ensures) (omega arith) (omega arith) (c .before .before .before .before .word-from2 .result) (c .before .before .before .before .word-from2 .ensures) (omega arith) (omega arith) (omega arith) (omega arith) (omega arith) (omega arith)
+returns-3 c =
+    let x = c .before .before .before .before .before .before .before .before .args in
+    let at : c .before .queries-at .result ≡ queriesAt (x .sheet .now) =
+    c .before .queries-at .ensures .0 ∙ ap (λ (a : ℕ). 4 + 8 * a + 4 + 20 * u32At (x .sheet .now) (4 + 8 * a)) (c .before .before .before .before .word-from .ensures) in
+    stops-in-queries (x .sheet .now) (x .room) (c .before .before .before .before .before .before .charts-stop .result) (c .before .before .before .before .before .before .charts-stop .ensures) (c .before .before .before .before .before .if1 .left) (c .before .before .before .scoring-stop .result) (scoring-is (c .before .before .before)) (c .before .before .if2 .left)
+    (c .queries-stop .result) (c .queries-stop .ensures ∙ ap (λ (n : ℕ). queriesStop (x .sheet .now) n (x .room)) at)
 
 pub sheet-stop-spec : {M : Type 1} → statement M
 sheet-stop-spec =
     tie.close
     (tie.spec
+    charts-stop-requires
     returns
     word-from-requires
-    cast-charts
-    returns-2
+    cast-at
     mul-at
     add-at
-    returns-3
-    add-if4
-    returns-4
-    word-from-requires-2
-    cast-queries
-    returns-5
-    add-end
-    mul-end
-    add-end-2
-    returns-6
-    returns-7
-    mul-if8
-    returns-8
-    returns-9)
+    scoring-stop-requires
+    returns-2
+    queries-at-requires
+    queries-stop-requires
+    returns-3)

@@ -9,13 +9,13 @@ use Rattle.sheets.proofs.work_rows.Tie as tie
 use Rattle.sheets_laws.specs.Sheets.{rowsWritten}
 
 abbrev Inv-loop : tie.InvT-loop
-Inv-loop sheet base charts count n out₀ i₀ out i = (i ≤ n) × (length out ≡ length out₀) × (out ≡ rowsWritten sheet (take count charts) base i out₀)
+Inv-loop sheet base charts count scoring n out₀ i₀ out i = (i ≤ n) × (length out ≡ length out₀) × (out ≡ rowsWritten sheet scoring (take count charts) base i out₀)
 
 abbrev μ-loop : tie.MeasureT-loop
-μ-loop sheet base charts count n out₀ i₀ out i = n - i
+μ-loop sheet base charts count scoring n out₀ i₀ out i = n - i
 
 loop-holds : tie.Need-loop-holds Inv-loop μ-loop
-loop-holds c = let x = c .before .before .args in (omega arith, refl, written-none (x .sheet .now) (take (x .count) (x .charts)) (x .base) (x .out .now))
+loop-holds c = let x = c .before .before .args in (omega arith, refl, written-none (x .sheet .now) (x .scoring) (take (x .count) (x .charts)) (x .base) (x .out .now))
 
 mul-row-from : tie.Need-mul-row-from Inv-loop μ-loop
 mul-row-from c = omega arith
@@ -27,7 +27,7 @@ row-from-requires : tie.Need-row-from-requires Inv-loop μ-loop
 row-from-requires c κs = omega arith
 
 row-answer-requires : tie.Need-row-answer-requires Inv-loop μ-loop
-row-answer-requires c κs = omega arith
+row-answer-requires c κs = ((omega arith, omega arith), c .before .before .before .before .before .pre .1 .0)
 
 mul-put-answer : tie.Need-mul-put-answer Inv-loop μ-loop
 mul-put-answer c = omega arith
@@ -45,7 +45,7 @@ loop-again : tie.Need-loop-again Inv-loop μ-loop
 loop-again c =
     let x = c .before .before .before .before .before .before .before .before .before .before .args in
     let l = c .before .before .before .before .before .before .before .loop in
-    (omega arith, omega arith, written-step (x .sheet .now) (take (x .count) (x .charts)) (x .base) (x .out .now) (l .i) (c .before .before .before .before .before .row-from .result) _ (l .out) _ (l .inv .2) (c .before .before .before .before .before .row-from .ensures) (c .before .before .before .before .row-answer .ensures) (c .before .before .put-answer .ensures))
+    (omega arith, omega arith, written-step (x .sheet .now) (x .scoring) (take (x .count) (x .charts)) (x .base) (x .out .now) (l .i) (c .before .before .before .before .before .row-from .result) _ (l .out) _ (l .inv .2) (c .before .before .before .before .before .row-from .ensures) (c .before .before .before .before .row-answer .ensures) (c .before .before .put-answer .ensures))
 
 same-length : tie.Need-same-length Inv-loop μ-loop
 same-length c = omega arith

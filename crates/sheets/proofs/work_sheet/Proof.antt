@@ -1,11 +1,16 @@
 -- `sheets::work_sheet` meets its contract; demand 3 and L8 are laws of its equation. Assumes nothing.
 use Rattle.sheets.specs.declared.SheetAnswer.the-variants.{Worked, Refused}
 use Rattle.sheets.proofs.Laws.{claims}
-use mathlib.Core.Path.{_≡_, sym, _∙_}
+use Prim.Native.Nat.{ℕ, _+_, _*_, _≤_}
+use mathlib.Core.Path.{_≡_, sym, ap, _∙_}
+use mathlib.Core.List.{List}
 use lib.ListN.{length, take}
 use native.Mathlib.Omega.{arith}
+use Rattle.little_endian.specs.Bytes.{u32At}
+use Rattle.weighting.specs.Scoring.{fair}
+use Rattle.sheets_laws.specs.Sheets.{queriesAt, sheetStop}
 use borrow.Author.Needs.{needs}
-use Rattle.sheets_laws.proofs.Accepted.{accepted, laid, laid-out, sheet-stopped, sheet-from}
+use Rattle.sheets_laws.proofs.Accepted.{Accepted, accepted, ScoringIn, QueriesIn, sheet-stopped, sheet-from}
 use Rattle.sheets.proofs.work_sheet.Statement.{statement}
 use Rattle.sheets.proofs.work_sheet.Tie as tie
 
@@ -17,10 +22,22 @@ returns c =
     let e = sheet-stopped (c .before .before .before .before .args .sheet .now) (c .before .before .before .before .args .out .now) (c .before .sheet-stop .result) (c .before .sheet-stop .ensures) (omega arith) in
     claims (Refused (c .before .sheet-stop .result)) (c .before .before .before .before .args .sheet .now) (c .before .before .before .before .args .out .now) _ e
 
+-- ---- a sheet that no check stops, and its places as the code reads them
+module _ (c : tie.Else1) where
+  abbrev sheet : List ℕ
+  sheet = c .before .before .before .before .args .sheet .now
+
+  abbrev room : ℕ
+  room = length (c .before .before .before .before .args .out .now)
+
+  unstopped : sheetStop sheet room ≡ 0
+  unstopped = let z : c .before .sheet-stop .result ≡ 0 = omega arith in sym (c .before .sheet-stop .ensures) ∙ z
+
+  whole : Accepted sheet room
+  whole = accepted sheet room unstopped
+
 word-from-requires : tie.Need-word-from-requires
-word-from-requires c κs =
-    let z : c .before .sheet-stop .result ≡ 0 = omega arith in
-    accepted (c .before .before .before .before .args .sheet .now) (length (c .before .before .before .before .args .out .now)) (sym (c .before .sheet-stop .ensures) ∙ z) .counted
+word-from-requires c κs = whole c .charts .counted
 
 cast-count : tie.Need-cast-count
 cast-count c = search needs
@@ -31,13 +48,34 @@ mul-at c = search needs
 add-at : tie.Need-add-at
 add-at c = search needs
 
+-- the section of own weights
+scoring : (c : tie.After-word-from) → ScoringIn (sheet (c .before)) (4 + 8 * c .word-from .result)
+scoring c = rw (c .word-from .ensures) (whole (c .before) .scoring)
+
+few : (c : tie.After-word-from) → c .word-from .result ≤ 256
+few c = rw (c .word-from .ensures) (whole (c .before) .charts .few)
+
+scoring-from-requires : tie.Need-scoring-from-requires
+scoring-from-requires c κs = (scoring c .counted, scoring c .within)
+
+queries-at-requires : tie.Need-queries-at-requires
+queries-at-requires c κs = (omega (arith, few (c .before)), scoring (c .before) .counted, scoring (c .before) .few)
+
+-- the queries' section
+at-is : (c : tie.After-queries-at) → c .queries-at .result ≡ queriesAt (sheet (c .before .before .before))
+at-is c =
+    c .queries-at .ensures .0 ∙ ap (λ (a : ℕ). 4 + 8 * a + 4 + 20 * u32At (sheet (c .before .before .before)) (4 + 8 * a)) (c .before .before .word-from .ensures)
+
+queries : (c : tie.After-queries-at) → QueriesIn (sheet (c .before .before .before)) (c .queries-at .result) (room (c .before .before .before))
+queries c = rw (at-is c) (whole (c .before .before .before) .queries)
+
 word-from-requires-2 : tie.Need-word-from-requires-2
-word-from-requires-2 c κs = laid (c .before .before .before .before .before .args .sheet .now) (length (c .before .before .before .before .before .args .out .now)) (c .before .before .sheet-stop .result) (c .word-from .result) (c .before .before .sheet-stop .ensures) (omega arith) (c .word-from .ensures) .1
+word-from-requires-2 c κs = queries c .counted
 
 read-charts-requires : tie.Need-read-charts-requires
 read-charts-requires c κs =
-    let k = laid (c .before .before .before .before .before .before .args .sheet .now) (length (c .before .before .before .before .before .before .args .out .now)) (c .before .before .before .sheet-stop .result) (c .before .word-from .result) (c .before .before .before .sheet-stop .ensures) (omega arith) (c .before .word-from .ensures) in
-    (omega (arith, k .1), k .0)
+    let w = scoring (c .before .before .before) in
+    (omega (arith, w .counted), few (c .before .before .before))
 
 add-work-rows : tie.Need-add-work-rows
 add-work-rows c = search needs
@@ -47,21 +85,28 @@ cast-work-rows c = search needs
 
 work-rows-requires : tie.Need-work-rows-requires
 work-rows-requires c κs =
-    let k = laid (c .before .before .before .before .before .before .before .before .args .sheet .now) (length (c .before .before .before .before .before .before .before .before .args .out .now)) (c .before .before .before .before .before .sheet-stop .result) (c .before .before .before .word-from .result) (c .before .before .before .before .before .sheet-stop .ensures) (omega arith) (c .before .before .before .word-from .ensures) in
-    let m = laid-out (c .before .before .before .before .before .before .before .before .args .sheet .now) (length (c .before .before .before .before .before .before .before .before .args .out .now)) (c .before .before .before .before .before .sheet-stop .result) (c .before .before .before .word-from .result) (c .before .before .word-from2 .result) (c .before .before .before .before .before .sheet-stop .ensures) (omega arith) (c .before .before .before .word-from .ensures) (c .before .before .word-from2 .ensures) in
-    let r : length (c .before .read-charts .result) ≡ 256 = c .before .read-charts .ensures .1 in
-    ((k .0, omega (arith, k .0)), (m .0, m .1))
+    let w = c .before .before .before .before .before in
+    let q = queries (c .before .before .before) in
+    let e = c .before .before .word-from2 .ensures in
+    let r : length (c .before .read-charts .result) ≡ 256 = c .before .read-charts .ensures .1 in (
+      (few w, omega (arith, few w)),
+      (
+        ap fair (c .before .before .before .before .scoring-from .ensures) ∙ scoring w .fair,
+        (omega (arith, q .ends, e), omega (arith, q .room, e)),
+      ),
+    )
 
 same-length : tie.Need-same-length
 same-length c = search needs
 
 returns-2 : tie.Need-returns-2
 returns-2 c =
-    let z : c .before .before .before .before .before .before .before .before .sheet-stop .result ≡ 0 = omega arith in
+    let x = c .before .before .before .before .before .before .before .before .before .before .before .before .before .args in
+    let n = c .before .before .before .before .before .before .before .before .word-from .result in
     let e =
-    sheet-from (c .before .before .before .before .before .before .before .before .before .before .before .args .sheet .now) (c .before .before .before .before .before .before .before .before .before .before .before .args .out .now) (c .before .before .before .before .before .before .word-from .result) (c .before .before .before .before .before .word-from2 .result) (take (c .before .before .before .before .before .before .word-from .result) (c .before .before .before .before .read-charts .result)) _
-    (sym (c .before .before .before .before .before .before .before .before .sheet-stop .ensures) ∙ z) (c .before .before .before .before .before .before .word-from .ensures) (c .before .before .before .before .before .word-from2 .ensures) (c .before .before .before .before .read-charts .ensures .0) (c .before .before .work-rows .ensures) in
-    claims (Worked (c .before .before .before .before .before .word-from2 .result)) (c .before .before .before .before .before .before .before .before .before .before .before .args .sheet .now) (c .before .before .before .before .before .before .before .before .before .before .before .args .out .now) _ e
+    sheet-from (x .sheet .now) (x .out .now) n (c .before .before .before .before .before .before .queries-at .result) (c .before .before .before .before .before .word-from2 .result) (c .before .before .before .before .before .before .before .scoring-from .result) (take n (c .before .before .before .before .read-charts .result)) _
+    (unstopped (c .before .before .before .before .before .before .before .before .before)) (c .before .before .before .before .before .before .before .before .word-from .ensures) (c .before .before .before .before .before .before .before .scoring-from .ensures) (c .before .before .before .before .before .before .queries-at .ensures .0) (c .before .before .before .before .before .word-from2 .ensures) (c .before .before .before .before .read-charts .ensures .0) (c .before .before .work-rows .ensures) in
+    claims (Worked (c .before .before .before .before .before .word-from2 .result)) (x .sheet .now) (x .out .now) _ e
 
 pub work-sheet-spec : {M : Type 1} → statement M
 work-sheet-spec =
@@ -73,6 +118,8 @@ work-sheet-spec =
     cast-count
     mul-at
     add-at
+    scoring-from-requires
+    queries-at-requires
     word-from-requires-2
     read-charts-requires
     add-work-rows
