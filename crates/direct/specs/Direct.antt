@@ -41,7 +41,7 @@ handed n a out = either (ltb (length out) n) (lent 5 out) (lent (statusOf a) (va
 abbrev pub answerIn : ℕ → List ℕ → Answer (List ℕ)
 answerIn status values = unless (eqb status 0) status (worked values)
 
--- what `hand` asks of an answer: no refusal has the number 0 (`numbered` in generate_laws shows it of the direct call)
+-- what `hand` asks of an answer: no refusal has the number 0 (`numbered` in generate_laws shows it of every query)
 abbrev pub Numbered : Generated → Type 0
 Numbered (Counts c tried left) = Unit {0}
 Numbered (Refused n) = 0 < n

@@ -171,7 +171,7 @@ pub extern "C" fn nuqsillay_generate(
     )
 }
 
-// Works a sheet: 0 with an answer of 36 bytes for each query in out, or 1 to 5 with out unchanged.
+// Works a sheet: 0 with an answer of 36 bytes for each query in out, or 1 to 5 or 18 with out unchanged.
 #[no_mangle]
 pub extern "C" fn nuqsillay_work_sheet(sheet: &[u8], out: &mut [u8]) -> u32
     ensures { λ r. ⌜ lent r (now (out .exit)) ≡ sheetLent (now (sheet .entry)) (now (out .entry)) ⌝ }

@@ -3,7 +3,7 @@ ghost use mathlib.Core.Path.{_≡_};
 ghost use Prim.Native.Nat.{_<_, _≤_};
 ghost use mathlib.Core.Bool.{true};
 ghost use lib.ListN.{length, take};
-ghost use Rattle.weighting.specs.Scoring.{fair};
+ghost use Rattle.weighting.specs.Scoring.{allowed};
 ghost use Rattle.generate.specs.Generated.{generatedOf};
 ghost use Rattle.direct.specs.Direct.{answerIn};
 ghost use Rattle.rows.specs.Rows.{leftOver, holdsLeft, fieldsLeft, unknownRow, ownUnfit, rowStop, foundAnswer, rowAnswer};
@@ -112,7 +112,7 @@ fn answer_of(status: u32, numbers: [u32; 8]) -> Generated
 
 // The answer of a row whose chart is found.
 fn found_answer(row: Row, chart: Chart, scoring: Scoring) -> Generated
-    requires { ⌜ fair scoring ≡ true ⌝ }
+    requires { ⌜ allowed scoring ≡ true ⌝ }
     ensures { λ r. ⌜ generatedOf r ≡ foundAnswer scoring row chart ⌝ }
 {
     let stop = row_stop(row, chart, scoring);
@@ -148,7 +148,7 @@ fn found_answer(row: Row, chart: Chart, scoring: Scoring) -> Generated
 // The answer of a row, the sheet's charts being the first n.
 pub fn row_answer(row: Row, charts: [Chart; 256], n: usize, scoring: Scoring) -> Generated
     requires { ⌜ (n ≤ 256) × (n ≤ length charts) ⌝ }
-    requires { ⌜ fair scoring ≡ true ⌝ }
+    requires { ⌜ allowed scoring ≡ true ⌝ }
     ensures { λ r. ⌜ generatedOf r ≡ rowAnswer scoring row (take n charts) ⌝ }
 {
     let index = row.chart as usize;

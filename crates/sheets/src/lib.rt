@@ -5,7 +5,7 @@ ghost use Prim.Native.Nat.{_+_, _*_, _≤_};
 ghost use lib.ListN.{length, take};
 ghost use Rattle.little_endian.specs.Bytes.{u32At};
 ghost use Rattle.records.specs.Records.{weightsAt};
-ghost use Rattle.weighting.specs.Scoring.{fair};
+ghost use Rattle.weighting.specs.Scoring.{allowed};
 ghost use Rattle.sheets_laws.specs.Sheets.{scoringFrom, chartsStop, scoringStop, queriesStop, sheetStop, rowsWritten, sheetOf};
 ghost use Rattle.sheets_laws.specs.Demand3.{Demand3};
 ghost use Rattle.sheets_laws.specs.RisingRows.{RisingRows};
@@ -79,7 +79,7 @@ fn scoring_stop(sheet: &[u8], at: usize) -> u32
     if len < at + 4 + 20 * own {
         return 1;
     }
-    if weighting::is_fair(scoring_from(sheet, at)) {
+    if weighting::is_allowed(scoring_from(sheet, at)) {
         return 0;
     }
     18
@@ -146,7 +146,7 @@ fn work_rows(
     out: &mut [u8],
 )
     requires { ⌜ (count ≤ 256) × (count ≤ length charts) ⌝ }
-    requires { ⌜ fair scoring ≡ true ⌝ }
+    requires { ⌜ allowed scoring ≡ true ⌝ }
     requires { ⌜ base + 48 * n ≤ length (now sheet) ⌝ }
     requires { ⌜ 36 * n ≤ length (now out) ⌝ }
     ensures { λ _. ⌜ now (out .exit) ≡ rowsWritten (now (sheet .entry)) scoring (take count charts) base n (now (out .entry)) ⌝ }

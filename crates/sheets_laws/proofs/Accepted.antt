@@ -11,7 +11,7 @@ use borrow.Author.Tests.{eq-eqb, ne-eqb, ltb-false, not-false}
 use Rattle.little_endian.specs.Bytes.{u32At}
 use Rattle.score_state.specs.Answer.{worked}
 use Rattle.inspect.specs.declared.Chart.{Chart}
-use Rattle.weighting.specs.Scoring.{fair}
+use Rattle.weighting.specs.Scoring.{allowed}
 use Rattle.weighting.specs.declared.Scoring.{Scoring}
 use Rattle.charts.specs.Charts.{chartsAt}
 use Rattle.sheets_laws.specs.Sheets.{chartCount, scoringAt, queriesAt, queryCount, rowsAt, scoringFrom, scoringOf, chartsStop, scoringStop, queriesStop, first, sheetStop, chartsOf, rowsWritten, stopped, sheetOf}
@@ -47,23 +47,23 @@ pub record ScoringIn (s : List ℕ) (at : ℕ) : Type 0 where
   pub counted : at + 4 ≤ length s
   pub few : u32At s at ≤ 1
   pub within : at + 4 + 20 * u32At s at ≤ length s
-  pub fair : fair (scoringFrom s at) ≡ true
+  pub allowed : allowed (scoringFrom s at) ≡ true
 
 pub scoring-in : (s : List ℕ) (at : ℕ) → scoringStop s at ≡ 0 → ScoringIn s at
 unfolding scoringStop
 scoring-in s at e =
-    let r4 : ℕ = cond (not (fair (scoringFrom s at))) 18 0 in
+    let r4 : ℕ = cond (not (allowed (scoringFrom s at))) 18 0 in
     let r3 : ℕ = cond (ltb (length s) (at + 4 + 20 * u32At s at)) 1 r4 in
     let r2 : ℕ = cond (ltb 1 (u32At s at)) 18 r3 in
     let p1 = passes (ltb (length s) (at + 4)) 1 r2 (omega arith) e in
     let p2 = passes (ltb 1 (u32At s at)) 18 r3 (omega arith) (p1 .1) in
     let p3 = passes (ltb (length s) (at + 4 + 20 * u32At s at)) 1 r4 (omega arith) (p2 .1) in
-    let p4 = passes (not (fair (scoringFrom s at))) 18 0 (omega arith) (p3 .1) in
+    let p4 = passes (not (allowed (scoringFrom s at))) 18 0 (omega arith) (p3 .1) in
     record {
       counted = ltb-false (length s) (at + 4) (p1 .0);
       few = ltb-false 1 (u32At s at) (p2 .0);
       within = ltb-false (length s) (at + 4 + 20 * u32At s at) (p3 .0);
-      fair = not-false (fair (scoringFrom s at)) (p4 .0);
+      allowed = not-false (allowed (scoringFrom s at)) (p4 .0);
     }
 
 -- of queries whose section starts at a place

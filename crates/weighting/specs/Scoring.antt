@@ -13,10 +13,10 @@ abbrev pub weightsBy : Scoring → Bool → List ℕ
 weightsBy Standard classic = standard classic
 weightsBy (Own w) classic = weightsOf w
 
--- what check 18 lets pass: "The first two may be equal ..; otherwise weights fall strictly, from at most 100 to at least 1."
-abbrev pub fair : Scoring → Bool
-fair Standard = true
-fair (Own w) = weighs (weightsOf w)
+-- the weights that check 18 lets pass: "The first two may be equal ..; otherwise weights fall strictly, from at most 100 to at least 1."
+abbrev pub allowed : Scoring → Bool
+allowed Standard = true
+allowed (Own w) = weighs (weightsOf w)
 
 -- demand 3's bound on tried: "at most 88,434 for any chart"; with own weights "never over 1,940,598, demand 3's bound there"
 abbrev pub mostTried : Scoring → ℕ

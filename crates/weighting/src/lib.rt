@@ -2,7 +2,7 @@
 ghost use mathlib.Core.Path.{_≡_};
 ghost use Rattle.score_state.specs.Points.{weightsOf};
 ghost use Rattle.nearest_laws.specs.Nearest.{weighs};
-ghost use Rattle.weighting.specs.Scoring.{weightsBy, fair};
+ghost use Rattle.weighting.specs.Scoring.{weightsBy, allowed};
 use score_state::Weights;
 
 // By which weights a sheet's rows are scored: by the two standard weightings, or by a league's own.
@@ -44,8 +44,8 @@ pub fn is_weighting(weights: Weights) -> bool
 }
 
 // Whether check 18 lets the weights pass; the standard ones always do.
-pub fn is_fair(scoring: Scoring) -> bool
-    ensures { λ r. ⌜ r ≡ fair scoring ⌝ }
+pub fn is_allowed(scoring: Scoring) -> bool
+    ensures { λ r. ⌜ r ≡ allowed scoring ⌝ }
 {
     match scoring {
         Scoring::Standard => true,

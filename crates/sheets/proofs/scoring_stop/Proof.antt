@@ -1,8 +1,8 @@
 -- `sheets::scoring_stop` meets its contract. Assumes nothing.
 use mathlib.Core.Path.{sym, ap, _∙_}
 use native.Mathlib.Omega.{arith}
-use Rattle.weighting.specs.Scoring.{fair}
-use Rattle.sheets_laws.proofs.Stops.{ends-in-own-count, own-over, ends-in-weights, unfair, scoring-pass}
+use Rattle.weighting.specs.Scoring.{allowed}
+use Rattle.sheets_laws.proofs.Stops.{ends-in-own-count, own-over, ends-in-weights, not-allowed, scoring-pass}
 use borrow.Author.Needs.{needs}
 use Rattle.sheets.proofs.scoring_stop.Statement.{statement}
 use Rattle.sheets.proofs.scoring_stop.Tie as tie
@@ -37,14 +37,14 @@ returns-3 c = ends-in-weights (c .before .before .before .before .before .args .
 scoring-from-requires : tie.Need-scoring-from-requires
 scoring-from-requires c κs = search needs
 
-is-fair-requires : tie.Need-is-fair-requires
-is-fair-requires c κs = search needs
+is-allowed-requires : tie.Need-is-allowed-requires
+is-allowed-requires c κs = search needs
 
 returns-4 : tie.Need-returns-4
-returns-4 c = scoring-pass (c .before .before .before .before .before .before .before .before .args .sheet .now) (c .before .before .before .before .before .before .before .before .args .at) (c .before .before .before .before .before .word-from .result) (c .before .before .before .before .before .word-from .ensures) (omega arith) (omega arith) (omega arith) (sym (c .before .is-fair .ensures ∙ ap fair (c .before .before .scoring-from .ensures)) ∙ c .if4 .taken)
+returns-4 c = scoring-pass (c .before .before .before .before .before .before .before .before .args .sheet .now) (c .before .before .before .before .before .before .before .before .args .at) (c .before .before .before .before .before .word-from .result) (c .before .before .before .before .before .word-from .ensures) (omega arith) (omega arith) (omega arith) (sym (c .before .is-allowed .ensures ∙ ap allowed (c .before .before .scoring-from .ensures)) ∙ c .if4 .taken)
 
 returns-5 : tie.Need-returns-5
-returns-5 c = unfair (c .before .before .before .before .before .before .before .before .args .sheet .now) (c .before .before .before .before .before .before .before .before .args .at) (c .before .before .before .before .before .word-from .result) (c .before .before .before .before .before .word-from .ensures) (omega arith) (omega arith) (omega arith) (sym (c .before .is-fair .ensures ∙ ap fair (c .before .before .scoring-from .ensures)) ∙ c .if4 .left)
+returns-5 c = not-allowed (c .before .before .before .before .before .before .before .before .args .sheet .now) (c .before .before .before .before .before .before .before .before .args .at) (c .before .before .before .before .before .word-from .result) (c .before .before .before .before .before .word-from .ensures) (omega arith) (omega arith) (omega arith) (sym (c .before .is-allowed .ensures ∙ ap allowed (c .before .before .scoring-from .ensures)) ∙ c .if4 .left)
 
 pub scoring-stop-spec : {M : Type 1} → statement M
 scoring-stop-spec =
@@ -60,6 +60,6 @@ scoring-stop-spec =
     add-if3-2
     returns-3
     scoring-from-requires
-    is-fair-requires
+    is-allowed-requires
     returns-4
     returns-5)

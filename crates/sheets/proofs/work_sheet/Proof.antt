@@ -7,7 +7,7 @@ use mathlib.Core.List.{List}
 use lib.ListN.{length, take}
 use native.Mathlib.Omega.{arith}
 use Rattle.little_endian.specs.Bytes.{u32At}
-use Rattle.weighting.specs.Scoring.{fair}
+use Rattle.weighting.specs.Scoring.{allowed}
 use Rattle.sheets_laws.specs.Sheets.{queriesAt, sheetStop}
 use borrow.Author.Needs.{needs}
 use Rattle.sheets_laws.proofs.Accepted.{Accepted, accepted, ScoringIn, QueriesIn, sheet-stopped, sheet-from}
@@ -91,7 +91,7 @@ work-rows-requires c κs =
     let r : length (c .before .read-charts .result) ≡ 256 = c .before .read-charts .ensures .1 in (
       (few w, omega (arith, few w)),
       (
-        ap fair (c .before .before .before .before .scoring-from .ensures) ∙ scoring w .fair,
+        ap allowed (c .before .before .before .before .scoring-from .ensures) ∙ scoring w .allowed,
         (omega (arith, q .ends, e), omega (arith, q .room, e)),
       ),
     )

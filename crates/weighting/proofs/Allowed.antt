@@ -10,16 +10,16 @@ use Rattle.score_state.specs.Points.{weightsOf}
 use Rattle.nearest_laws.specs.Nearest.{Weighting, standard-weighting, Found, nearest}
 use Rattle.nearest_laws.proofs.Weighs.{weighting}
 use Rattle.nearest_laws.proofs.Tried.{tried-standard, tried-any}
-use Rattle.weighting.specs.Scoring.{weightsBy, fair, mostTried}
+use Rattle.weighting.specs.Scoring.{weightsBy, allowed, mostTried}
 use Rattle.weighting.specs.declared.Scoring.{Scoring}
 use Rattle.weighting.specs.declared.Scoring.the-variants.{Standard, Own}
 
-pub fair-weighting : (sc : Scoring) (classic : Bool) → fair sc ≡ true → Weighting (weightsBy sc classic)
-fair-weighting Standard classic h = standard-weighting classic
-fair-weighting (Own w) classic h = weighting (weightsOf w) h
+pub allowed-weighting : (sc : Scoring) (classic : Bool) → allowed sc ≡ true → Weighting (weightsBy sc classic)
+allowed-weighting Standard classic h = standard-weighting classic
+allowed-weighting (Own w) classic h = weighting (weightsOf w) h
 
-pub fair-tried
-    : (sc : Scoring) (classic : Bool) (gs : List (Option ℕ)) (T remain : ℕ) (f : Found) → fair sc ≡ true → length gs ≡ 5
+pub allowed-tried
+    : (sc : Scoring) (classic : Bool) (gs : List (Option ℕ)) (T remain : ℕ) (f : Found) → allowed sc ≡ true → length gs ≡ 5
     → nearest (weightsBy sc classic) gs T remain ≡ some f → f .tried ≤ mostTried sc
-fair-tried Standard classic gs T remain f h five e = tried-standard classic gs T remain f five e
-fair-tried (Own w) classic gs T remain f h five e = tried-any (weightsOf w) gs T remain f (weighting (weightsOf w) h) e
+allowed-tried Standard classic gs T remain f h five e = tried-standard classic gs T remain f five e
+allowed-tried (Own w) classic gs T remain f h five e = tried-any (weightsOf w) gs T remain f (weighting (weightsOf w) h) e
