@@ -120,15 +120,14 @@ fn found_answer(row: Row, chart: Chart, scoring: Scoring) -> Generated
         return Generated::Refused(stop);
     }
     let acc = little_endian::f64_of(row.acc);
-    let weights = weighting::weights_by(scoring, row.classic == 1);
-    let mut numbers = [0u32; 8];
+    let kind = direct::kind_of(scoring, row.classic == 1);
+    let mut numbers = direct::numbers_of(scoring);
     let status = direct::scored(
-        weights,
         chart.n_objects,
         chart.n_hold_notes,
         row.method,
         row.priority,
-        row.classic == 1,
+        kind,
         row.presence,
         row.n320,
         row.n300,

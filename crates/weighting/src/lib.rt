@@ -2,23 +2,13 @@
 ghost use mathlib.Core.Path.{_≡_};
 ghost use Rattle.score_state.specs.Points.{weightsOf};
 ghost use Rattle.nearest_laws.specs.Nearest.{weighs};
-ghost use Rattle.weighting.specs.Scoring.{weightsBy, allowed};
+ghost use Rattle.weighting.specs.Scoring.{allowed};
 use score_state::Weights;
 
 // By which weights a sheet's rows are scored: by the two standard weightings, or by a league's own.
 pub enum Scoring {
     Standard,
     Own(Weights),
-}
-
-// The weights of a row by its classic flag, which own weights do not look at.
-pub fn weights_by(scoring: Scoring, classic: bool) -> Weights
-    ensures { λ r. ⌜ weightsOf r ≡ weightsBy scoring classic ⌝ }
-{
-    match scoring {
-        Scoring::Standard => score_state::standard_weights(classic),
-        Scoring::Own(weights) => weights,
-    }
 }
 
 // Whether weights fall from at most 100 to at least 1: strictly, but for the first two, which may be equal.
