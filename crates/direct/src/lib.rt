@@ -74,6 +74,7 @@ pub fn kind_of(scoring: Scoring, classic: bool) -> u8
     }
 }
 
+// Own weights from n320 to n50, and 0 elsewhere.
 pub fn numbers_of(scoring: Scoring) -> [u32; 8]
     ensures { λ r. ⌜ r ≡ numbersBy scoring ⌝ }
 {
