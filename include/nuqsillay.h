@@ -1,7 +1,7 @@
 /* Nuqsillay: judgement counts of osu!mania plays. Link target/staticlib/libnuqsillay.a, which `rt staticlib nuqsillay` writes.
  * docs/RULES.md tells the words, the records and the checks.
  *
- * Each call answers NUQSILLAY_OK, or the number of the check that refuses its input; a refused call leaves its output as it was.
+ * Each call answers NUQSILLAY_OK, or the number of the check that refuses its input; a refused call leaves its outputs as they were.
  * No call allocates, keeps a pointer, or fails otherwise. Pointers must not be null; an array is a pointer and its length. */
 #ifndef NUQSILLAY_H
 #define NUQSILLAY_H
@@ -20,7 +20,7 @@ enum nuqsillay_status {
     NUQSILLAY_CHARTS_OVER = 2,    /* a sheet has over 256 charts */
     NUQSILLAY_QUERIES_OVER = 3,   /* a sheet has over 1,024 queries */
     NUQSILLAY_BYTES_LEFT = 4,     /* bytes follow a sheet's last query */
-    NUQSILLAY_OUTPUT_SHORT = 5,   /* the output has too few places */
+    NUQSILLAY_OUTPUT_SHORT = 5,   /* an output has too few places */
     NUQSILLAY_NO_CHART = 6,       /* a row's chart index is not below the number of charts */
     NUQSILLAY_CHART_OVER = 7,     /* a chart has over 100,000 objects or hold notes */
     NUQSILLAY_UNKNOWN_CODE = 8,   /* method, priority or a row's classic is none of the known ones */
@@ -88,8 +88,11 @@ uint32_t nuqsillay_generate(uint32_t n_objects, uint32_t n_hold_notes, uint8_t m
 
 /* Works a sheet: every row's answer to out, 36 bytes each, as nine little-endian fields: status u32, then the eight of
  * nuqsillay_generate, seven u32 and left i32. A row's status is 0, or 6 to 14 or 19 with zeros after it; the next row is worked
- * all the same. Bytes past the last answer stay. Refused by 1 to 5 and 18: each section's count is judged (2, 18, 3) before its
- * records (1), own weights (18) once they are all there, then 4, then 5. sheet and out must not overlap.
+ * all the same. Bytes past the last answer stay. totals, of at least 7 numbers: totals[0] how many rows have status 0, totals[1]
+ * to totals[6] the sums of their n320, n300, n200, n100, n50 and misses; a row with another status adds nothing, and numbers past
+ * the seventh stay. Refused by 5 where totals_len is under 7, before anything else; then by 1 to 5 and 18: each section's count is
+ * judged (2, 18, 3) before its records (1), own weights (18) once they are all there, then 4, then 5 of out. sheet, out and
+ * totals must not overlap.
  *
  * A sheet, little-endian: the number of charts (u32, at most 256), the charts (8 bytes: objects u32, hold notes u32), the number
  * of sets of own weights (u32, 0 or 1), the set (20 bytes: five u32 from n320 to n50), the number of queries (u32, at most
@@ -102,7 +105,8 @@ uint32_t nuqsillay_generate(uint32_t n_objects, uint32_t n_hold_notes, uint8_t m
  * n300 counts as given with 0 where it weighs as much as n320 and both are missing. IgnoreAccuracy needs no weights; Fast and
  * Closest are stopped by 19, after 9. The other calls keep the standard weights. A row of Nearest tries at most 88,434
  * candidates, with own weights 1,940,598. */
-uint32_t nuqsillay_work_sheet(const uint8_t *sheet, size_t sheet_len, uint8_t *out, size_t out_len);
+uint32_t nuqsillay_work_sheet(const uint8_t *sheet, size_t sheet_len, uint8_t *out, size_t out_len, uint64_t *totals,
+                              size_t totals_len);
 
 /* The strides of Nearest's walk under two weightings, a and b, each from n320 to n50. out, of at least 320 numbers: 64 rows of
  * five, from n320 to n50. Rows 0 to 31 are a's, one for each value of presence's five lowest bits, rows 32 to 63 b's. A stride

@@ -5,7 +5,7 @@ use mathlib.Core.List.{List, [], _∷_}
 use Prim.Native.Nat.{ℕ, zero, suc, _+_, _*_, _<_}
 use native.Mathlib.Omega.{arith}
 use lib.IntN.{ℤ}
-use lib.ListN.{length}
+use lib.ListN.{length, getD}
 use Rattle.lists.specs.Lists.{put}
 use Rattle.little_endian.specs.Bytes.{u32At, bytes4}
 use Rattle.little_endian.proofs.Put.{bytes4-back}
@@ -15,7 +15,7 @@ use Rattle.points_left.specs.Left.{bitsOf}
 use Rattle.generate.specs.Generated.{generatedOf}
 use Rattle.generate.specs.declared.Generated.{Generated}
 use Rattle.generate.specs.declared.Generated.the-variants.{Counts, Refused}
-use Rattle.answers.specs.Answers.{fieldBytes, answerBytes, value}
+use Rattle.answers.specs.Answers.{fieldBytes, answerBytes, value, eightAt}
 
 pub put-counts
     : (s : List ℕ) (at : ℕ) (g : Generated) (c : HitResults) (tried : ℕ) (left : ℤ) (bits : ℕ) (out : List ℕ) → g ≡ Counts c tried left → bits ≡ bitsOf left
@@ -53,3 +53,15 @@ value-at a (suc (suc (suc (suc (suc (suc (suc (suc k)))))))) h = absurd (omega a
 
 pub value-back : (a : Answer (List ℕ)) (k : ℕ) → k < 8 → value a k < 4294967296 → u32At (answerBytes a) (4 + 4 * k) ≡ value a k
 value-back a k m h = value-at a k m ∙ bytes4-back (value a k) h
+
+-- ---- an answer that an output holds: the j-th of the eight numbers behind its status
+pub eight-at : (out : List ℕ) (k j : ℕ) → j < 8 → getD (eightAt out k) j 0 ≡ u32At out (36 * k + (4 + 4 * j))
+eight-at out k zero h = refl
+eight-at out k (suc zero) h = refl
+eight-at out k (suc (suc zero)) h = refl
+eight-at out k (suc (suc (suc zero))) h = refl
+eight-at out k (suc (suc (suc (suc zero)))) h = refl
+eight-at out k (suc (suc (suc (suc (suc zero))))) h = refl
+eight-at out k (suc (suc (suc (suc (suc (suc zero)))))) h = refl
+eight-at out k (suc (suc (suc (suc (suc (suc (suc zero))))))) h = refl
+eight-at out k (suc (suc (suc (suc (suc (suc (suc (suc j)))))))) h = absurd (omega arith)

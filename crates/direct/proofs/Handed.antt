@@ -8,14 +8,14 @@ use native.Mathlib.Omega.{arith}
 use borrow.Author.Tests.{lt-ltb, le-ltb, ne-eqb}
 use lib.ListN.{length, drop, take}
 use lib.Seq.{sets, sets-eq, take-at}
-use Rattle.score_state.specs.Answer.{Answer, refused, worked, unless, statusOf, valuesOf}
+use Rattle.score_state.specs.Answer.{Answer, refused, worked, unless, statusOf, valuesOf, answerIn}
 use Rattle.inspect.specs.declared.Query.{Query}
 use Rattle.generate_laws.specs.Generate.{scoredAnswer}
 use Rattle.generate_laws.proofs.Refusals.{numbered}
 use Rattle.generate.specs.Generated.{generatedOf}
 use Rattle.generate.specs.declared.Generated.{Generated}
 use Rattle.generate.specs.declared.Generated.the-variants.{Counts, Refused}
-use Rattle.direct.specs.Direct.{Numbered, lent, either, handed, answerIn}
+use Rattle.direct.specs.Direct.{Numbered, lent, either, handed}
 
 pub handed-short : (n : ℕ) (a : Answer (List ℕ)) (out : List ℕ) → length out < n → lent 5 out ≡ handed n a out
 unfolding handed

@@ -9,7 +9,7 @@ use lib.Dec.{ltb, eqb}
 use lib.ListN.{length, drop, getD}
 use lib.Ieee.{Float}
 use Rattle.score_state.specs.declared.HitResults.{HitResults}
-use Rattle.score_state.specs.Answer.{Answer, worked, unless, statusOf, valuesOf}
+use Rattle.score_state.specs.Answer.{Answer, statusOf, valuesOf}
 use Rattle.score_state.specs.Points.{standard}
 use Rattle.weighting.specs.declared.Scoring.{Scoring}
 use Rattle.weighting.specs.declared.Scoring.the-variants.{Standard, Own}
@@ -40,10 +40,6 @@ either false a b = b
 -- an answer of n values, in front of what the output held
 unfoldable pub handed : ℕ → Answer (List ℕ) → List ℕ → Lent
 handed n a out = either (ltb (length out) n) (lent 5 out) (lent (statusOf a) (valuesOf a ++ drop (length (valuesOf a)) out))
-
--- the answer that a call's result and its values tell
-abbrev pub answerIn : ℕ → List ℕ → Answer (List ℕ)
-answerIn status values = unless (eqb status 0) status (worked values)
 
 -- what `hand` asks of an answer: no refusal has the number 0 (`numbered` in generate_laws shows it of every query)
 abbrev pub Numbered : Generated → Type 0

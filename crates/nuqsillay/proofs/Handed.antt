@@ -1,7 +1,9 @@
 -- What the answers of `accuracy` and of a sheet leave behind. Assumes nothing.
 use mathlib.Core.Path.{_≡_, sym, ap, _∙_}
-use mathlib.Core.List.{List}
-use Prim.Native.Nat.{ℕ}
+use mathlib.Core.List.{List, _++_}
+use Prim.Native.Nat.{ℕ, _≤_, _<_}
+use borrow.Author.Tests.{lt-ltb, le-ltb}
+use lib.ListN.{length, drop}
 use lib.Ieee.{Float}
 use Rattle.score_state.specs.Accuracy as Score
 use Rattle.score_state.specs.declared.AccuracyAnswer.{AccuracyAnswer}
@@ -11,8 +13,9 @@ use Rattle.sheets_laws.specs.Sheets.{WorkedSheet, sheetOf}
 use Rattle.sheets.specs.Worked.{workedOf}
 use Rattle.sheets.specs.declared.SheetAnswer.{SheetAnswer}
 use Rattle.sheets.specs.declared.SheetAnswer.the-variants.{Worked, Refused}
-use Rattle.direct.specs.Direct.{lent}
-use Rattle.nuqsillay.specs.Exports.{valueOr, sheetLent}
+use Rattle.totals.specs.Totals.{sevenOf}
+use Rattle.totals.specs.declared.Totals.{Totals}
+use Rattle.nuqsillay.specs.Exports.{valueOr, sheetLent, totalsLent, sheetHanded}
 
 pub accuracy-is : (r : AccuracyAnswer) (a : Answer Float) (x old : Float) → Score.answerOf r ≡ a → r ≡ Is x → (0 ≡ statusOf a) × (x ≡ valueOr a old)
 accuracy-is r a x old h k =
@@ -25,11 +28,18 @@ accuracy-refused r a old h k =
     (ap statusOf e, ap (λ (y : Answer Float). valueOr y old) e)
 
 -- ---- a sheet
-lent-of : (s out o : List ℕ) (r : SheetAnswer) → workedOf r o ≡ sheetOf s out → lent (statusOf (workedOf r o .answer)) (workedOf r o .bytes) ≡ sheetLent s out
-lent-of s out o r e = ap (λ (w : WorkedSheet). lent (statusOf (w .answer)) (w .bytes)) e
+pub sheet-short : (s out ts : List ℕ) → length ts < 7 → sheetLent 5 out ts ≡ sheetHanded s out ts
+sheet-short s out ts h = rw (lt-ltb (length ts) 7 h)
 
-pub sheet-worked : (s out o : List ℕ) (r : SheetAnswer) (n : ℕ) → workedOf r o ≡ sheetOf s out → r ≡ Worked n → lent 0 o ≡ sheetLent s out
-sheet-worked s out o r n e k = lent-of s out o (Worked n) (ap (λ (x : SheetAnswer). workedOf x o) (sym k) ∙ e)
+module _ (s out o : List ℕ) (r : SheetAnswer) (ts : List ℕ) (e : workedOf r o ≡ sheetOf s out) (h : 7 ≤ length ts) where
+  -- by the case that the answer is
+  by-case : (a : SheetAnswer) → r ≡ a → sheetLent (statusOf (workedOf a o .answer)) (workedOf a o .bytes) (totalsLent (workedOf a o .answer) ts) ≡ sheetHanded s out ts
+  by-case a k =
+      let f : workedOf a o ≡ sheetOf s out = ap (λ (x : SheetAnswer). workedOf x o) (sym k) ∙ e in
+      rw (le-ltb (length ts) 7 h) (ap (λ (w : WorkedSheet). sheetLent (statusOf (w .answer)) (w .bytes) (totalsLent (w .answer) ts)) f)
 
-pub sheet-refused : (s out o : List ℕ) (r : SheetAnswer) (n : ℕ) → workedOf r o ≡ sheetOf s out → r ≡ Refused n → lent n o ≡ sheetLent s out
-sheet-refused s out o r n e k = lent-of s out o (Refused n) (ap (λ (x : SheetAnswer). workedOf x o) (sym k) ∙ e)
+  pub sheet-worked : (n : ℕ) (t : Totals) (ts′ : List ℕ) → r ≡ Worked n t → ts′ ≡ sevenOf t ++ drop 7 ts → sheetLent 0 o ts′ ≡ sheetHanded s out ts
+  sheet-worked n t ts′ k p = ap (sheetLent 0 o) p ∙ by-case (Worked n t) k
+
+  pub sheet-refused : (n : ℕ) → r ≡ Refused n → sheetLent n o ts ≡ sheetHanded s out ts
+  sheet-refused n k = by-case (Refused n) k

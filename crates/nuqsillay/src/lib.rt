@@ -1,14 +1,17 @@
 // The calls that C and Rust programs link: numbers and slices only. Their header is include/nuqsillay.h. holds_given is a bool there, one
 // byte of 0 or 1 (`direct::holds_of` says why it is none here).
 ghost use mathlib.Core.Path.{_≡_};
-ghost use lib.ListN.{length};
+ghost use mathlib.Core.List.{_++_};
+ghost use Prim.Native.Nat.{_≤_};
+ghost use lib.ListN.{length, drop};
 ghost use Rattle.score_state.specs.Answer.{statusOf};
 ghost use Rattle.score_state.specs.Accuracy.{accuracyAnswer};
 ghost use Rattle.inspect.specs.Answers.{targetAnswer};
 ghost use Rattle.generate_laws.specs.Generate.{generateAnswer};
 ghost use Rattle.direct.specs.Direct.{sixCounts, lent, handed, queryBy};
+ghost use Rattle.totals.specs.Totals.{sevenOf};
 ghost use Rattle.stride_table.specs.StrideTable.{tableStatus, tableOut};
-ghost use Rattle.nuqsillay.specs.Exports.{valueOr, targetQuery, sheetLent, fiveWeights};
+ghost use Rattle.nuqsillay.specs.Exports.{valueOr, targetQuery, sheetLent, sheetHanded, fiveWeights};
 use inspect::Accuracy;
 use inspect::Chart;
 use inspect::Query;
@@ -17,6 +20,7 @@ use score_state::AccuracyAnswer;
 use score_state::HitResults;
 use score_state::Weights;
 use sheets::SheetAnswer;
+use totals::Totals;
 
 // `accuracy`: 0 with the accuracy behind value, or 10.
 #[no_mangle]
@@ -171,13 +175,34 @@ pub extern "C" fn nuqsillay_generate(
     )
 }
 
-// Works a sheet: 0 with an answer of 36 bytes for each query in out, or 1 to 5 or 18 with out unchanged.
-#[no_mangle]
-pub extern "C" fn nuqsillay_work_sheet(sheet: &[u8], out: &mut [u8]) -> u32
-    ensures { λ r. ⌜ lent r (now (out .exit)) ≡ sheetLent (now (sheet .entry)) (now (out .entry)) ⌝ }
+// The seven numbers of a sheet to an output that has room for them.
+fn hand_totals(t: Totals, out: &mut [u64])
+    requires { ⌜ 7 ≤ length (now out) ⌝ }
+    ensures { λ _. ⌜ now (out .exit) ≡ sevenOf t ++ drop 7 (now (out .entry)) ⌝ }
 {
+    out[0] = t.rows;
+    out[1] = t.n320;
+    out[2] = t.n300;
+    out[3] = t.n200;
+    out[4] = t.n100;
+    out[5] = t.n50;
+    out[6] = t.misses;
+}
+
+// Works a sheet: 0 with an answer of 36 bytes for each query in out and their seven numbers in totals, or 1 to 5 or 18 with both
+// unchanged.
+#[no_mangle]
+pub extern "C" fn nuqsillay_work_sheet(sheet: &[u8], out: &mut [u8], totals: &mut [u64]) -> u32
+    ensures { λ r. ⌜ sheetLent r (now (out .exit)) (now (totals .exit)) ≡ sheetHanded (now (sheet .entry)) (now (out .entry)) (now (totals .entry)) ⌝ }
+{
+    if totals.len() < 7 {
+        return 5;
+    }
     match sheets::work_sheet(sheet, out) {
-        SheetAnswer::Worked(_) => 0,
+        SheetAnswer::Worked(_, t) => {
+            hand_totals(t, totals);
+            0
+        }
         SheetAnswer::Refused(n) => n,
     }
 }

@@ -5,7 +5,7 @@ ghost use mathlib.Core.Bool.{true};
 ghost use lib.ListN.{length, take};
 ghost use Rattle.weighting.specs.Scoring.{allowed};
 ghost use Rattle.generate.specs.Generated.{generatedOf};
-ghost use Rattle.direct.specs.Direct.{answerIn};
+ghost use Rattle.score_state.specs.Answer.{answerIn};
 ghost use Rattle.rows.specs.Rows.{leftOver, holdsLeft, fieldsLeft, unknownRow, ownUnfit, rowStop, foundAnswer, rowAnswer};
 use generate::Generated;
 use inspect::Chart;

@@ -4,6 +4,7 @@
 use Prim.Native.Nat.{ℕ}
 use mathlib.Core.Bool.{Bool, true, false}
 use mathlib.Core.List.{List, []}
+use lib.Dec.{eqb}
 
 pub data Answer (A : Type 0) : Type 0 where
   -- worked, with these values
@@ -24,3 +25,7 @@ valuesOf (refused n) = []
 abbrev pub unless : {A : Type 0} → Bool → ℕ → Answer A → Answer A
 unless true n a = a
 unless false n a = refused n
+
+-- the answer that a status and values beside it tell
+abbrev pub answerIn : ℕ → List ℕ → Answer (List ℕ)
+answerIn status values = unless (eqb status 0) status (worked values)

@@ -9,14 +9,15 @@ ghost use Rattle.weighting.specs.Scoring.{allowed};
 ghost use Rattle.sheets_laws.specs.Sheets.{scoringFrom, chartsStop, scoringStop, queriesStop, sheetStop, rowsWritten, sheetOf};
 ghost use Rattle.sheets_laws.specs.Demand3.{Demand3};
 ghost use Rattle.sheets_laws.specs.RisingRows.{RisingRows};
-ghost use Rattle.sheets.specs.Worked.{workedOf, WhenWorked};
+ghost use Rattle.sheets.specs.Worked.{workedOf, WhenWorked, TotalsWritten};
 use inspect::Chart;
 use score_state::Weights;
+use totals::Totals;
 use weighting::Scoring;
 
-// How many queries were worked, or the number of the check that stops the sheet.
+// How many queries were worked and their totals, or the number of the check that stops the sheet.
 pub enum SheetAnswer {
-    Worked(u32),
+    Worked(u32, Totals),
     Refused(u32),
 }
 
@@ -163,6 +164,7 @@ fn work_rows(
 // Works every query of a sheet and writes its answer, 36 bytes each; a sheet that a check stops leaves the output unchanged.
 pub fn work_sheet(sheet: &[u8], out: &mut [u8]) -> SheetAnswer
     ensures equation { λ r. ⌜ workedOf r (now (out .exit)) ≡ sheetOf (now (sheet .entry)) (now (out .entry)) ⌝ }
+    ensures totals { λ r. ⌜ TotalsWritten r (now (out .exit)) ⌝ }
     ensures demand3 { λ r. ⌜ WhenWorked r (Demand3 (now (sheet .entry)) (now (out .exit))) ⌝ }
     ensures rising { λ r. ⌜ WhenWorked r (RisingRows (now (sheet .entry)) (now (out .exit))) ⌝ }
 {
@@ -185,5 +187,6 @@ pub fn work_sheet(sheet: &[u8], out: &mut [u8]) -> SheetAnswer
         queries as usize,
         out,
     );
-    SheetAnswer::Worked(queries)
+    let totals = totals::totals_of(out, queries as usize);
+    SheetAnswer::Worked(queries, totals)
 }

@@ -14,7 +14,8 @@ use Rattle.inspect.specs.declared.Chart.{Chart}
 use Rattle.weighting.specs.Scoring.{allowed}
 use Rattle.weighting.specs.declared.Scoring.{Scoring}
 use Rattle.charts.specs.Charts.{chartsAt}
-use Rattle.sheets_laws.specs.Sheets.{chartCount, scoringAt, queriesAt, queryCount, rowsAt, scoringFrom, scoringOf, chartsStop, scoringStop, queriesStop, first, sheetStop, chartsOf, rowsWritten, stopped, sheetOf}
+use Rattle.totals.specs.Totals.{totalsOver}
+use Rattle.sheets_laws.specs.Sheets.{chartCount, scoringAt, queriesAt, queryCount, rowsAt, scoringFrom, scoringOf, chartsStop, scoringStop, queriesStop, first, sheetStop, chartsOf, rowsWritten, stopped, finished, sheetOf}
 use Rattle.sheets_laws.proofs.Stops.{both-pass}
 
 -- one check in front of others: where the whole is 0, the check does not hold, and the others are 0
@@ -112,14 +113,15 @@ module _ (s out : List ℕ) where
   unfolding sheetOf
   sheet-stopped n e h = rw (← e, ne-eqb n 0 (λ (z : n ≡ 0). omega arith))
 
-  pub sheet-worked : sheetStop s (length out) ≡ 0 → record { answer = worked (queryCount s); bytes = rowsWritten s (scoringOf s) (chartsOf s) (rowsAt s) (queryCount s) out } ≡ sheetOf s out
+  pub sheet-worked : sheetStop s (length out) ≡ 0 → finished (queryCount s) (rowsWritten s (scoringOf s) (chartsOf s) (rowsAt s) (queryCount s) out) ≡ sheetOf s out
   unfolding sheetOf
   sheet-worked e = rw (eq-eqb (sheetStop s (length out)) 0 e)
 
-  -- a: the count of charts; sc: the scoring; at: where the queries' count starts; b: their count; cs: the charts; o: what the rows leave
+  -- a: the count of charts; sc: the scoring; at: where the queries' count starts; b: their count; cs: the charts; o: what the rows leave;
+  -- ts: the totals of that
   pub sheet-from
-      : (a at b : ℕ) (sc : Scoring) (cs : List Chart) (o : List ℕ) → sheetStop s (length out) ≡ 0 → a ≡ u32At s 0 → sc ≡ scoringFrom s (4 + 8 * a)
+      : (a at b : ℕ) (sc : Scoring) (cs : List Chart) (o ts : List ℕ) → sheetStop s (length out) ≡ 0 → a ≡ u32At s 0 → sc ≡ scoringFrom s (4 + 8 * a)
       → at ≡ 4 + 8 * a + 4 + 20 * u32At s (4 + 8 * a) → b ≡ u32At s at → cs ≡ chartsAt s 4 a → o ≡ rowsWritten s sc cs (at + 4) b out
-      → record { answer = worked b; bytes = o } ≡ sheetOf s out
+      → ts ≡ totalsOver o b → record { answer = worked (record { queries = b; totals = ts }); bytes = o } ≡ sheetOf s out
   unfolding chartsOf
-  sheet-from a at b sc cs o e ea es et eb ec eo = rw (eo, ec, es, eb, et, ea) (sheet-worked e)
+  sheet-from a at b sc cs o ts e ea es ep eb ec eo et = rw (et, eo, ec, es, eb, ep, ea) (sheet-worked e)

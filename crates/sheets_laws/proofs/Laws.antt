@@ -1,7 +1,7 @@
 -- What `sheetOf` says of a sheet, for a theorem over all its rows: a stopped sheet leaves the output; an accepted one has the
 -- answer of row i at 36 * i, its nine numbers read back, and the bytes past the last answer as before.
 -- Assumes nothing.
-use mathlib.Core.Path.{_≡_, refl, ap, sym, _∙_}
+use mathlib.Core.Path.{_≡_, refl, ap, sym, subst, _∙_}
 use mathlib.Core.List.{List}
 use Prim.Native.Nat.{ℕ, _+_, _*_, _≤_, _<_}
 use native.Mathlib.Omega.{arith}
@@ -14,7 +14,8 @@ use Rattle.records.specs.Records.{chartAt}
 use Rattle.charts.proofs.Listed.{length-charts, chart-of}
 use Rattle.answers.specs.Answers.{answerBytes, value}
 use Rattle.answers.proofs.Written.{status-back, value-back}
-use Rattle.sheets_laws.specs.Sheets.{chartCount, queryCount, rowsAt, scoringOf, sheetStop, chartsOf, answerAt, rowsWritten, WorkedSheet, sheetOf}
+use Rattle.totals.specs.Totals.{totalsOver}
+use Rattle.sheets_laws.specs.Sheets.{chartCount, queryCount, rowsAt, scoringOf, sheetStop, chartsOf, answerAt, rowsWritten, SheetNumbers, WorkedSheet, sheetOf}
 use Rattle.sheets_laws.proofs.Accepted.{accepted, sheet-stopped, sheet-worked}
 use Rattle.sheets_laws.proofs.Written.{length-written, written-part, written-rest}
 
@@ -42,8 +43,9 @@ module _ (s out : List ℕ) where
   refused-bytes h = ap (λ (w : WorkedSheet). w .bytes) (sym (sheet-stopped s out (sheetStop s (length out)) refl h))
 
   module _ (ok : sheetStop s (length out) ≡ 0) where
-    pub accepted-answer : sheetOf s out .answer ≡ worked (queryCount s)
-    accepted-answer = ap (λ (w : WorkedSheet). w .answer) (sym (sheet-worked s out ok))
+    pub accepted-answer : sheetOf s out .answer ≡ worked (record { queries = queryCount s; totals = totalsOver (sheetOf s out .bytes) (queryCount s) })
+    accepted-answer =
+        subst (λ (w : WorkedSheet). w .answer ≡ worked (record { queries = queryCount s; totals = totalsOver (w .bytes) (queryCount s) })) (sheet-worked s out ok) refl
 
     accepted-bytes : sheetOf s out .bytes ≡ rowsWritten s (scoringOf s) (chartsOf s) (rowsAt s) (queryCount s) out
     accepted-bytes = ap (λ (w : WorkedSheet). w .bytes) (sym (sheet-worked s out ok))
@@ -73,12 +75,12 @@ module _ (s out : List ℕ) where
         ∙ ap (λ (b : List ℕ). u32At b (4 + 4 * k)) (row-bytes i l)
         ∙ value-back (answerAt s i) k m h
 
--- ---- an answer tells its case, and its number
-pub worked-apart : (m n : ℕ) → worked m ≡ refused n → ⊥
-worked-apart m n e = let z : _≡_ {A = ℕ} 0 1 = cc in omega arith
+-- ---- an answer tells its case, and its numbers
+pub worked-apart : (x : SheetNumbers) (n : ℕ) → worked x ≡ refused n → ⊥
+worked-apart x n e = let z : _≡_ {A = ℕ} 0 1 = cc in omega arith
 
-pub refused-same : (m n : ℕ) → _≡_ {A = Answer ℕ} (refused m) (refused n) → m ≡ n
+pub refused-same : (m n : ℕ) → _≡_ {A = Answer SheetNumbers} (refused m) (refused n) → m ≡ n
 refused-same m n e = cc
 
-pub worked-same : (m n : ℕ) → worked m ≡ worked n → m ≡ n
-worked-same m n e = cc
+pub worked-same : (x y : SheetNumbers) → worked x ≡ worked y → x ≡ y
+worked-same x y e = cc

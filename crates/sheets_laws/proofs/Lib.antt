@@ -4,3 +4,4 @@ pub mod Written
 pub mod Laws
 pub mod Demand3
 pub mod RisingRows
+pub mod Totals

@@ -11,6 +11,7 @@ use Rattle.inspect.specs.Presence.{has}
 use Rattle.inspect.specs.Inspect.{Inspect, accOf, givens, remain}
 use Rattle.records.specs.declared.Row.{Row}
 use Rattle.direct.specs.Direct.{accBy}
+use Rattle.answers.specs.Answers.{written}
 use Rattle.rows.specs.Rows.{queryOf}
 use Rattle.nearest_laws.specs.Nearest.{stops}
 use Rattle.weighting.specs.Scoring.{weightsBy, mostTried}
@@ -19,7 +20,7 @@ use Rattle.generate_laws.specs.Method3.{fiveOf, missesOf, IsNearest}
 use Rattle.generate_laws.proofs.Method3.{passed-0, passed-13, passed-14}
 use Rattle.generate_laws.proofs.Rising as Answers
 use Rattle.sheets_laws.specs.Sheets.{queryCount, scoringOf, sheetStop, sheetOf}
-use Rattle.sheets_laws.specs.Demand3.{row, query, inspected, weightsFor, written}
+use Rattle.sheets_laws.specs.Demand3.{row, query, inspected, weightsFor}
 use Rattle.sheets_laws.specs.RisingRows.{withAcc, sixOf, AlikeButForAcc, RisingRows}
 use Rattle.sheets_laws.proofs.Demand3.{seen, status-back, values-back, weighting-for, passed-row, answered, demand-3}
 

@@ -12,8 +12,9 @@ use Rattle.score_state.specs.Answer.{Answer, statusOf, valuesOf}
 use Rattle.records.specs.declared.Row.{Row}
 use Rattle.generate_laws.specs.Generate.{targetOf}
 use Rattle.generate_laws.specs.Method3.{fiveOf}
+use Rattle.answers.specs.Answers.{written}
 use Rattle.sheets_laws.specs.Sheets.{queryCount}
-use Rattle.sheets_laws.specs.Demand3.{row, inspected, weightsFor, written}
+use Rattle.sheets_laws.specs.Demand3.{row, inspected, weightsFor}
 
 -- a row with another acc
 abbrev pub withAcc : ℕ → Row → Row

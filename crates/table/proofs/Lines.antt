@@ -1,6 +1,6 @@
 -- What `printedOf` says in document 01's words: of a sheet that is stopped, `refused N`; of an accepted one, the header and for every
 -- query the line of its answer, where the answer's numbers fit the 32 bits that they have in the output; and in document 02's, L1: the
--- line ends with left, "a minus sign before a negative one".
+-- line ends with left, "a minus sign before a negative one"; L10: after the rows stands the line of the answers' totals.
 -- Assumes nothing.
 use mathlib.Core.Path.{_≡_, refl, ap, ap₂, _∙_}
 use mathlib.Core.Bool.{Bool, true, false, cond}
@@ -15,10 +15,13 @@ use Rattle.score_state.specs.Answer.{Answer, statusOf}
 use Rattle.points_left.specs.Left.{signedOf}
 use Rattle.answers.specs.Answers.{value}
 use Rattle.text.specs.Text.{decimalText, signedText, refusedText}
+use Rattle.totals.specs.Totals.{totalsOf}
+use Rattle.total_text.specs.TotalText.{totalText}
 use Rattle.lists.specs.Lists.{joined}
 use Rattle.lists.proofs.Joined.{same-pieces}
 use Rattle.sheets_laws.specs.Sheets.{sheetStop, queryCount, answerAt, sheetOf}
 use Rattle.sheets_laws.proofs.Laws.{refused-answer, accepted-answer, row-status, row-value}
+use Rattle.sheets_laws.proofs.Totals.{totals-answers}
 use Rattle.table.specs.Table.{headerText, fieldText, fieldsText, leftText, rowText, tableText, answerText, room, printedOf}
 
 -- an integer as text
@@ -69,9 +72,11 @@ module _ (s : List ℕ) where
           (ap signedText (one-field 8 (omega arith)) ∙ signed-shown (field (answerAt s i) 8) (fits 8 (omega arith)))
 
     pub printed-table
-        : ((i : ℕ) → i < queryCount s → Fits32 (answerAt s i)) → printedOf s ≡ headerText ++ joined (λ i. lineOf i (answerAt s i)) (queryCount s)
+        : ((i : ℕ) → i < queryCount s → Fits32 (answerAt s i))
+        → printedOf s ≡ headerText ++ joined (λ i. lineOf i (answerAt s i)) (queryCount s) ++ totalText (totalsOf (answerAt s) (queryCount s))
     unfolding printedOf answerText tableText
     printed-table fits =
         rw (accepted-answer s room ok)
-        (ap (λ (xs : List ℕ). headerText ++ xs)
-        (same-pieces (rowText (sheetOf s room .bytes)) (λ i. lineOf i (answerAt s i)) (queryCount s) (λ i l. one-line i l (fits i l))))
+        (ap₂ (λ (xs ts : List ℕ). headerText ++ xs ++ totalText ts)
+        (same-pieces (rowText (sheetOf s room .bytes)) (λ i. lineOf i (answerAt s i)) (queryCount s) (λ i l. one-line i l (fits i l)))
+        (totals-answers s room ok (λ i j l h. fits i l (suc j) (omega arith))))

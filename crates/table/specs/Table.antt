@@ -1,14 +1,15 @@
 -- Document 01, Program `sheet`: it "prints a header and one row per query: index, then the answer's fields. A refused sheet prints
--- only `refused N`." And document 02, L1: "The header and each printed row end with left, a minus sign before a negative one." The bytes
--- that it prints, from the bytes of the sheet.
+-- only `refused N`." And document 02, L1: "The header and each printed row end with left, a minus sign before a negative one."; L10: "After
+-- the rows, `sheet` prints `total`", and "A refused sheet has no such line." The bytes that it prints, from the bytes of the sheet.
 use mathlib.Core.List.{List, [], _∷_, _++_}
 use Prim.Native.Nat.{ℕ, _+_, _*_}
 use lib.ListN.{replicate}
 use Rattle.lists.specs.Lists.{joined}
 use Rattle.little_endian.specs.Bytes.{u32At}
 use Rattle.score_state.specs.Answer.{Answer, worked, refused}
+use Rattle.total_text.specs.TotalText.{totalText}
 use Rattle.text.specs.Text.{decimalText, signedText, refusedText}
-use Rattle.sheets_laws.specs.Sheets.{WorkedSheet, sheetOf}
+use Rattle.sheets_laws.specs.Sheets.{SheetNumbers, WorkedSheet, sheetOf}
 
 -- "query status n320 n300 n200 n100 n50 misses tried left", a line of 55 bytes
 unfoldable pub headerText : List ℕ
@@ -31,12 +32,13 @@ leftText out from = 32 ∷ signedText (u32At out (from + 32))
 unfoldable pub rowText : List ℕ → ℕ → List ℕ
 rowText out i = decimalText i ++ fieldsText out (36 * i) ++ leftText out (36 * i) ++ (10 ∷ [])
 
-unfoldable pub tableText : List ℕ → ℕ → List ℕ
-tableText out n = headerText ++ joined (rowText out) n
+-- the header, the lines of n queries, and the closing line of these totals
+unfoldable pub tableText : List ℕ → ℕ → List ℕ → List ℕ
+tableText out n totals = headerText ++ joined (rowText out) n ++ totalText totals
 
 -- what is printed of an answer, with the output that goes with it
-unfoldable pub answerText : Answer ℕ → List ℕ → List ℕ
-answerText (worked n) out = tableText out n
+unfoldable pub answerText : Answer SheetNumbers → List ℕ → List ℕ
+answerText (worked x) out = tableText out (x .queries) (x .totals)
 answerText (refused n) out = refusedText n
 
 abbrev pub sheetText : WorkedSheet → List ℕ

@@ -5,12 +5,14 @@ ghost use lib.ListN.{length, take, drop};
 ghost use Rattle.io.specs.Counts.{Counts};
 ghost use Rattle.lists.specs.Lists.{joined};
 ghost use Rattle.text.specs.Text.{Appended};
+ghost use Rattle.totals.specs.Totals.{sevenOf};
 ghost use Rattle.table.specs.Table.{fieldText, fieldsText, leftText, rowText, tableText, printedOf};
 use sheets::SheetAnswer;
+use totals::Totals;
 
-// The longest table: a header, and 1,024 lines of an index of four digits, eight fields of a space and ten digits, left with a sign more,
-// and an end.
-pub const ROOM: usize = 55 + 1024 * (4 + 8 * 11 + 12 + 1);
+// The longest table: a header, 1,024 lines of an index of four digits, eight fields of a space and ten digits, left with a sign more,
+// and an end; and the closing line of a word, seven times a space and 20 digits, and an end.
+pub const ROOM: usize = 55 + 1024 * (4 + 8 * 11 + 12 + 1) + (5 + 7 * 21 + 1);
 
 // A space and the k-th number of the answer that starts at `from`, up to tried.
 fn put_field(text: &mut [u8], at: usize, out: &[u8], from: usize, k: usize) -> usize
@@ -78,18 +80,19 @@ fn put_rows(text: &mut [u8], at: usize, out: &[u8], n: usize) -> usize
     end
 }
 
-// The header, and the lines of the first n queries.
-fn put_table(text: &mut [u8], out: &[u8], n: usize) -> usize
-    requires { ⌜ 107575 ≤ length (now text) ⌝ }
+// The header, the lines of the first n queries, and the closing line.
+fn put_table(text: &mut [u8], out: &[u8], n: usize, totals: Totals) -> usize
+    requires { ⌜ 107728 ≤ length (now text) ⌝ }
     requires { ⌜ (n ≤ 1024) × (36 * n ≤ length (now out)) ⌝ }
-    ensures { λ r. ⌜ Appended (now (text .entry)) 0 (now (text .exit)) r (tableText (now (out .entry)) n) ⌝ }
+    ensures { λ r. ⌜ Appended (now (text .entry)) 0 (now (text .exit)) r (tableText (now (out .entry)) n (sevenOf totals)) ⌝ }
 {
     let header_end = text::put_bytes(
         text,
         0,
         b"query status n320 n300 n200 n100 n50 misses tried left\n",
     );
-    put_rows(text, header_end, out, n)
+    let rows_end = put_rows(text, header_end, out, n);
+    total_text::put_total(text, rows_end, totals)
 }
 
 // Works a sheet and puts all that is printed of it at the start of text. It answers how many bytes that is; those past them stay.
@@ -100,7 +103,7 @@ pub fn print_sheet(sheet: &[u8], text: &mut [u8; ROOM]) -> usize
 {
     let mut out = [0u8; 36864];
     match sheets::work_sheet(sheet, &mut out) {
-        SheetAnswer::Worked(queries) => put_table(text, &out, queries as usize),
+        SheetAnswer::Worked(queries, totals) => put_table(text, &out, queries as usize, totals),
         SheetAnswer::Refused(stop) => text::put_refused(text, stop),
     }
 }

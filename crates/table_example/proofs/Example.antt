@@ -19,10 +19,12 @@ use Rattle.charts.specs.Charts.{chartsAt}
 use Rattle.rows.specs.Rows.{leftOver, holdsLeft, fieldsLeft, unknownRow, ownUnfit, rowStop, queryOf, foundAnswer, rowAnswer}
 use Rattle.answers.specs.Answers.{fieldBytes, answerBytes}
 use Rattle.sheets_laws.specs.Sheets.{scoringFrom, chartsStop, scoringStop, queriesStop, sheetStop, chartsOf, rowOf, rowsWritten, sheetOf}
+use Rattle.totals.specs.Totals.{totalsOf}
 use Rattle.text.specs.Text.{decimalUpTo, decimalText, signedText}
+use Rattle.total_text.specs.TotalText.{totalWord, sumText, totalText}
 use Rattle.table.specs.Table.{headerText, fieldText, fieldsText, leftText, rowText, tableText, answerText, room, printedOf}
 use Rattle.table_example.specs.Example.{sheet, shown}
 
 pub example : printedOf sheet ≡ shown
-unfolding sheet shown printedOf answerText tableText headerText rowText fieldsText fieldText leftText room decimalText decimalUpTo signedText scoringFrom chartsStop scoringStop queriesStop sheetStop chartsOf rowOf rowsWritten sheetOf fieldBytes answerBytes bytes4 chartAt rowAt chartsAt leftOver holdsLeft fieldsLeft unknownRow ownUnfit rowStop queryOf foundAnswer rowAnswer scoredBy byMethod foundOf nearestOf lt le mul sub div neg ofInt ofBits roundEven hits points gap or missing givenHits givenPoints fill shortened totalHits cappedMisses misses remain target chartOver unknownCode overCap countOver accOutside stopOf gcdIn gcd stride Walk.start Walk.over better Walk.offer settle lowest trial pair rows settings lastOf initOf middles middlesOf candidates walk fold allGiven stops found nearest
+unfolding sheet shown printedOf answerText tableText headerText rowText fieldsText fieldText leftText room totalsOf totalWord sumText totalText decimalText decimalUpTo signedText scoringFrom chartsStop scoringStop queriesStop sheetStop chartsOf rowOf rowsWritten sheetOf fieldBytes answerBytes bytes4 chartAt rowAt chartsAt leftOver holdsLeft fieldsLeft unknownRow ownUnfit rowStop queryOf foundAnswer rowAnswer scoredBy byMethod foundOf nearestOf lt le mul sub div neg ofInt ofBits roundEven hits points gap or missing givenHits givenPoints fill shortened totalHits cappedMisses misses remain target chartOver unknownCode overCap countOver accOutside stopOf gcdIn gcd stride Walk.start Walk.over better Walk.offer settle lowest trial pair rows settings lastOf initOf middles middlesOf candidates walk fold allGiven stops found nearest
 example = refl

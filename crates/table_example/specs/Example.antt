@@ -1,6 +1,6 @@
 -- Document 01, Program `sheet`: "One chart, query 0 as E with method 3, query 1 method 3 with presence 0", and the three lines that it
 -- prints: E is "n320 = n300 = 0, acc 1" of a chart of 20 objects. Each line ends with left (document 02, L1); between charts and queries
--- stands the count of own weights (L4).
+-- stands the count of own weights (L4); after the rows comes the line of sums (L10).
 use mathlib.Core.List.{List, [], _∷_}
 use Prim.Native.Nat.{ℕ}
 
@@ -26,4 +26,6 @@ shown =
     48 ∷ 32 ∷ 48 ∷ 32 ∷ 48 ∷ 32 ∷ 48 ∷ 32 ∷ 50 ∷ 48 ∷ 32 ∷ 48 ∷ 32 ∷ 48 ∷ 32 ∷ 48 ∷ 32 ∷ 51 ∷ 32 ∷ 52 ∷ 50 ∷ 48 ∷ 10 ∷
     -- 1 13 0 0 0 0 0 0 0 0
     49 ∷ 32 ∷ 49 ∷ 51 ∷ 32 ∷ 48 ∷ 32 ∷ 48 ∷ 32 ∷ 48 ∷ 32 ∷ 48 ∷ 32 ∷ 48 ∷ 32 ∷ 48 ∷ 32 ∷ 48 ∷ 32 ∷ 48 ∷ 10 ∷
+    -- total 1 0 0 20 0 0 0
+    116 ∷ 111 ∷ 116 ∷ 97 ∷ 108 ∷ 32 ∷ 49 ∷ 32 ∷ 48 ∷ 32 ∷ 48 ∷ 32 ∷ 50 ∷ 48 ∷ 32 ∷ 48 ∷ 32 ∷ 48 ∷ 32 ∷ 48 ∷ 10 ∷
     []

@@ -1,12 +1,14 @@
--- The digits that `io::decimal` writes are `decimalText`, and how many they are.
+-- The digits that `io::decimal` writes are `decimalText`, and how many those are.
 -- Assumes nothing.
 use mathlib.Core.Path.{_≡_, refl}
-use mathlib.Core.Bool.{Bool, true, false}
-use Prim.Native.Nat.{ℕ, zero, suc, _-_, _*_, _/_, _%_, _^_, _≤_, _<_}
-use native.Mathlib.Nat.{pow-suc, one-le-pow, pow-le-pow-right}
+use mathlib.Core.Bool.{Bool, true, false, cond}
+use mathlib.Core.List.{[], _∷_, _++_}
+use Prim.Native.Nat.{ℕ, zero, suc, _+_, _-_, _*_, _/_, _%_, _^_, _≤_, _<_}
+use native.Mathlib.Nat.{pow-suc, one-le-pow}
 use native.Mathlib.Omega.{arith}
 use lib.Dec.{ltb}
-use borrow.Author.Tests.{lt-ltb, le-ltb, ltb-true, ltb-false}
+use lib.ListN.{length, length-append}
+use borrow.Author.Tests.{lt-ltb, le-ltb}
 use Rattle.io.specs.Digits.{digits, Fewest}
 use Rattle.text.specs.Text.{decimalUpTo, decimalText}
 
@@ -50,14 +52,19 @@ pub decimal-digits : (n k : ℕ) → n < 10 ^ 20 → Fewest 10 1 n k → digits 
 unfolding decimalText
 decimal-digits n k h f = up-to 19 n k h f
 
--- a number below 10 ^ m has at most m digits
-pub digits-within : (n k m : ℕ) → Fewest 10 1 n k → 1 ≤ m → n < 10 ^ m → k ≤ m
-digits-within n k m f h l = go (ltb m k) refl
+-- a number below 10 ^ m has at most m digits, and any at most 20
+up-to-within : (more m n : ℕ) → n < 10 ^ suc m → length (decimalUpTo more n) ≤ suc m
+unfolding decimalUpTo
+up-to-within zero m n h = omega arith
+up-to-within (suc more) zero n h = rw (lt-ltb n 10 h) (omega arith)
+up-to-within (suc more) (suc m) n h =
+    let e : 10 ^ suc (suc m) ≡ 10 ^ suc m * 10 = pow-suc 10 (suc m) in
+    go (ltb n 10) (up-to-within more m (n / 10) (omega arith))
   where
-    go : (b : Bool) → ltb m k ≡ b → k ≤ m
-    go true e =
-        let lt : m < k = ltb-true m k e in
-        let p : 10 ^ (k - 1) ≤ n = f .2 (omega arith) in
-        let q : 10 ^ m ≤ 10 ^ (k - 1) = pow-le-pow-right (omega arith) (omega arith) in
-        absurd (omega arith)
-    go false e = ltb-false m k e
+    go : (b : Bool) → length (decimalUpTo more (n / 10)) ≤ suc m → length (cond b ((48 + n) ∷ []) (decimalUpTo more (n / 10) ++ ((48 + n % 10) ∷ []))) ≤ suc (suc m)
+    go true l = omega arith
+    go false l = simp length-append (omega arith)
+
+pub text-within : (m n : ℕ) → n < 10 ^ suc m → length (decimalText n) ≤ suc m
+unfolding decimalText
+text-within m n h = up-to-within 19 m n h

@@ -24,16 +24,24 @@ pub fn put_bytes(text: &mut [u8], at: usize, bytes: &[u8]) -> usize
     at + bytes.len()
 }
 
-// A number in decimal: at most ten digits, and at most four below 10,000.
+// A number of 64 bits in decimal, as many digits as it has.
+pub fn put_number(text: &mut [u8], at: usize, n: u64) -> usize
+    requires { ⌜ at + length (decimalText n) ≤ length (now text) ⌝ }
+    ensures { λ r. ⌜ Appended (now (text .entry)) at (now (text .exit)) r (decimalText n) ⌝ }
+{
+    let mut digits = [0u8; 20];
+    let k = io::decimal(n, &mut digits);
+    put_bytes(text, at, &digits[..k])
+}
+
+// One of 32 bits: at most ten digits, and at most four below 10,000.
 pub fn put_decimal(text: &mut [u8], at: usize, n: u32) -> usize
     requires { ⌜ at + 10 ≤ length (now text) ⌝ }
     ensures { λ r. ⌜ Appended (now (text .entry)) at (now (text .exit)) r (decimalText n) ⌝ }
     ensures { λ r. ⌜ r ≤ at + 10 ⌝ }
     ensures { λ r. ⌜ (n < 10000 → r ≤ at + 4) ⌝ }
 {
-    let mut digits = [0u8; 20];
-    let k = io::decimal(n as u64, &mut digits);
-    put_bytes(text, at, &digits[..k])
+    put_number(text, at, n as u64)
 }
 
 // A space and a number.

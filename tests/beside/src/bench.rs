@@ -12,7 +12,7 @@ use crate::{
     nearest, ours, plays,
     query::{ACC, CAP, CHART, Method, Query},
     repo,
-    sheet::{self, ANSWER, CHARTS, Chart, QUERIES},
+    sheet::{self, ANSWER, CHARTS, Chart, QUERIES, TOTALS},
     target,
 };
 
@@ -332,18 +332,20 @@ impl Full {
         })
     }
 
-    fn ours(&self) -> Vec<u8> {
+    fn ours(&self) -> (Vec<u8>, [u64; TOTALS]) {
         let mut out = vec![0; ANSWER * QUERIES];
-        ours::work_sheet(&self.bytes, &mut out);
-        out
+        let mut totals = [0; TOTALS];
+        ours::work_sheet(&self.bytes, &mut out, &mut totals);
+        (out, totals)
     }
 
-    /// The Rust, or the plain walk, on the same bytes, which sheet.rs reads, checks and writes.
-    fn theirs(&self) -> Result<Vec<u8>, u32> {
-        sheet::answers(&self.bytes).map(|answers| sheet::written(&answers))
+    /// The Rust, or the plain walk, on the same bytes, which sheet.rs reads, checks, writes and sums up.
+    fn theirs(&self) -> Result<(Vec<u8>, [u64; TOTALS]), u32> {
+        let answers = sheet::answers(&self.bytes)?;
+        Ok((sheet::written(&answers), sheet::totals(&answers)))
     }
 
-    /// The Rust, or the plain walk, with nothing read, checked or written.
+    /// The Rust, or the plain walk, with nothing read, checked, written or summed up.
     fn alone(&self) {
         for q in &self.queries {
             match q.method() {

@@ -44,6 +44,7 @@ mod stride_table;
 mod strides;
 mod tally;
 mod target;
+mod totals_sheets;
 
 // The repository's modules, which expect to stand at the root.
 include!(concat!(env!("OUT_DIR"), "/tree.rs"));

@@ -69,6 +69,8 @@ unsafe extern "C" {
         sheet_len: usize,
         out: *mut u8,
         out_len: usize,
+        totals: *mut u64,
+        totals_len: usize,
     ) -> u32;
 }
 
@@ -132,9 +134,18 @@ pub fn generate(q: &Query, out: &mut [u32]) -> u32 {
     }
 }
 
-pub fn work_sheet(sheet: &[u8], out: &mut [u8]) -> u32 {
+pub fn work_sheet(sheet: &[u8], out: &mut [u8], totals: &mut [u64]) -> u32 {
     // SAFETY: the call reads and writes only inside the slices whose lengths it is told.
-    unsafe { nuqsillay_work_sheet(sheet.as_ptr(), sheet.len(), out.as_mut_ptr(), out.len()) }
+    unsafe {
+        nuqsillay_work_sheet(
+            sheet.as_ptr(),
+            sheet.len(),
+            out.as_mut_ptr(),
+            out.len(),
+            totals.as_mut_ptr(),
+            totals.len(),
+        )
+    }
 }
 
 /// `sets` are two times five weights, from n320 to n50.

@@ -8,7 +8,7 @@ use crate::query::{ACC, Answer, CAP, CHART, MISSES, Method, NAMES, PASSED, Query
 pub struct Play {
     pub label: char,
     pub query: Query,
-    status: u32,
+    pub status: u32,
     counts: [u32; 5],
     misses: u32,
     /// Where the document gives it.

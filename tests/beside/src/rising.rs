@@ -2,7 +2,7 @@
 //! alike but for acc are worked in sheets, in any order, with the standard weights and with own ones.
 //! Put in the order of their rounded targets, the points of their counts never fall, and equal targets
 //! have the same six counts. The left of each is its target less those points. Rows among them whose acc
-//! is refused are left out.
+//! is refused are left out. The totals of each sheet are those of the bytes.
 
 use std::{collections::BTreeSet, fmt, mem};
 
@@ -11,7 +11,7 @@ use crate::{
     ours,
     own_sheets::{self, WEIGHTINGS},
     query::{ACC, Answer, CHART, MISSES, Method, PASSED, Query, Weights},
-    sheet::{self, ANSWER, Chart, QUERIES},
+    sheet::{self, ANSWER, Chart, QUERIES, TOTALS},
     stride_table,
     tally::Tally,
 };
@@ -112,13 +112,23 @@ impl Part<'_> {
         let rows: Vec<_> = queries.iter().map(|q| sheet::row(0, q)).collect();
         let bytes = sheet::weighted(&[chart], queries[0].own, &rows);
         let mut out = vec![0xA5; ANSWER * rows.len()];
-        let status = ours::work_sheet(&bytes, &mut out);
+        let mut totals = [u64::MAX; TOTALS];
+        let status = ours::work_sheet(&bytes, &mut out, &mut totals);
 
         self.tally.judge(status == 0, || {
             format!("{}: its sheet is refused by {status}", queries[0])
         });
 
-        sheet::read(&out)
+        let answers = sheet::read(&out);
+        let sums = sheet::totals(&answers);
+        self.tally.judge(totals == sums, || {
+            format!(
+                "{}: totals {totals:?}, where the answers have {sums:?}",
+                queries[0]
+            )
+        });
+
+        answers
     }
 
     /// Every target of a query: each is met exactly if any split does, so the points of the rows are

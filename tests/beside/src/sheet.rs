@@ -1,5 +1,5 @@
-//! Document 01's sheet, with document 02's longer queries and own weights: how its bytes lie, and what
-//! the call that works it must answer.
+//! Document 01's sheet, with document 02's longer queries, own weights and totals: how its bytes lie, and
+//! what the call that works it must answer.
 
 use std::{iter, ops::Range};
 
@@ -17,6 +17,9 @@ const CHART: usize = 8;
 pub const WEIGHTS: usize = 20;
 pub const ROW: usize = 48;
 pub const ANSWER: usize = 36;
+
+/// The numbers of the totals.
+pub const TOTALS: usize = 7;
 
 /// The bytes of a query that say whether the holds passed are given, and how many they are.
 pub const HOLDS_GIVEN: usize = 6;
@@ -222,4 +225,19 @@ pub fn read(written: &[u8]) -> Vec<Answer> {
     };
 
     written.chunks_exact(ANSWER).map(answer).collect()
+}
+
+/// The totals of these answers: "the number of rows with status 0, and the sums of their six counts".
+pub fn totals(answers: &[Answer]) -> [u64; TOTALS] {
+    let mut totals = [0; TOTALS];
+
+    for answer in answers.iter().filter(|answer| answer.status == 0) {
+        let [six @ .., _tried, _left] = answer.values;
+
+        for (total, n) in totals.iter_mut().zip(iter::once(1).chain(six)) {
+            *total += u64::from(n);
+        }
+    }
+
+    totals
 }

@@ -96,17 +96,26 @@ work-rows-requires c κs =
       ),
     )
 
+cast-totals-of : tie.Need-cast-totals-of
+cast-totals-of c = search needs
+
+totals-of-requires : tie.Need-totals-of-requires
+totals-of-requires c κs =
+    let q = queries (c .before .before .before .before .before .before .before) in
+    let e = c .before .before .before .before .before .before .word-from2 .ensures in
+    (omega (arith, q .few, e), omega (arith, q .room, e))
+
 same-length : tie.Need-same-length
 same-length c = search needs
 
 returns-2 : tie.Need-returns-2
 returns-2 c =
-    let x = c .before .before .before .before .before .before .before .before .before .before .before .before .before .args in
-    let n = c .before .before .before .before .before .before .before .before .word-from .result in
+    let x = c .before .before .before .before .before .before .before .before .before .before .before .before .before .before .before .args in
+    let n = c .before .before .before .before .before .before .before .before .before .before .word-from .result in
     let e =
-    sheet-from (x .sheet .now) (x .out .now) n (c .before .before .before .before .before .before .queries-at .result) (c .before .before .before .before .before .word-from2 .result) (c .before .before .before .before .before .before .before .scoring-from .result) (take n (c .before .before .before .before .read-charts .result)) _
-    (unstopped (c .before .before .before .before .before .before .before .before .before)) (c .before .before .before .before .before .before .before .before .word-from .ensures) (c .before .before .before .before .before .before .before .scoring-from .ensures) (c .before .before .before .before .before .before .queries-at .ensures .0) (c .before .before .before .before .before .word-from2 .ensures) (c .before .before .before .before .read-charts .ensures .0) (c .before .before .work-rows .ensures) in
-    claims (Worked (c .before .before .before .before .before .word-from2 .result)) (x .sheet .now) (x .out .now) _ e
+    sheet-from (x .sheet .now) (x .out .now) n (c .before .before .before .before .before .before .before .before .queries-at .result) (c .before .before .before .before .before .before .before .word-from2 .result) (c .before .before .before .before .before .before .before .before .before .scoring-from .result) (take n (c .before .before .before .before .before .before .read-charts .result)) _ _
+    (unstopped (c .before .before .before .before .before .before .before .before .before .before .before)) (c .before .before .before .before .before .before .before .before .before .before .word-from .ensures) (c .before .before .before .before .before .before .before .before .before .scoring-from .ensures) (c .before .before .before .before .before .before .before .before .queries-at .ensures .0) (c .before .before .before .before .before .before .before .word-from2 .ensures) (c .before .before .before .before .before .before .read-charts .ensures .0) (c .before .before .before .before .work-rows .ensures) (c .totals-of .ensures) in
+    claims (Worked (c .before .before .before .before .before .before .before .word-from2 .result) (c .totals-of .result)) (x .sheet .now) (x .out .now) _ e
 
 pub work-sheet-spec : {M : Type 1} → statement M
 work-sheet-spec =
@@ -125,5 +134,7 @@ work-sheet-spec =
     add-work-rows
     cast-work-rows
     work-rows-requires
+    cast-totals-of
+    totals-of-requires
     same-length
     returns-2)

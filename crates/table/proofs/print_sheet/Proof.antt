@@ -25,7 +25,7 @@ cast-put-table c = search needs
 
 put-table-requires : tie.Need-put-table-requires
 put-table-requires c κs =
-    let fits = queries-fit _ _ _ _ _ (c .before .before .before .queries .given .1) (c .before .before .before .before .before .before .work-sheet .ensures .0) in
+    let fits = queries-fit _ _ _ _ _ _ (c .before .before .before .queries .given .1) (c .before .before .before .before .before .before .work-sheet .ensures .0) in
     (omega arith, (omega arith, fits))
 
 enum-known-stop : tie.Need-enum-known-stop

@@ -6,23 +6,21 @@ use borrow.Author.Needs.{needs}
 use Rattle.table.proofs.put_table.Statement.{statement}
 use Rattle.table.proofs.put_table.Tie as tie
 
-slice-aggregate-put-bytes : tie.Need-slice-aggregate-put-bytes
-slice-aggregate-put-bytes c = search needs
-
-put-bytes-requires : tie.Need-put-bytes-requires
-put-bytes-requires c κs = search needs
-
-put-rows-requires : tie.Need-put-rows-requires
-put-rows-requires c κs = search needs
-
-same-length : tie.Need-same-length
-same-length c = search needs
-
 returns : tie.Need-returns
 unfolding tableText headerText
-returns c = followed (c .before .before .before .before .before .before .put-bytes .ensures) (c .before .before .put-rows .ensures .0) (omega arith)
+returns c =
+    let header = c .before .before .before .before .before .before .before .before .before .before .put-bytes .ensures in
+    let rows = c .before .before .before .before .before .before .put-rows .ensures in
+    let total = c .before .before .put-total .ensures in
+    followed (followed header (rows .0) (omega arith)) (total .0) (omega arith)
 
 pub put-table-spec : {M : Type 1} → statement M
 put-table-spec =
     tie.close
-    (tie.spec slice-aggregate-put-bytes put-bytes-requires put-rows-requires same-length returns)
+    (tie.spec
+    (λ c. search needs)
+    (λ c κs. search needs)
+    (λ c κs. search needs)
+    (λ c κs. search needs)
+    (λ c. search needs)
+    returns)
