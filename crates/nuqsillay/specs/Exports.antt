@@ -53,6 +53,7 @@ abbrev pub totalsLent : Answer SheetNumbers → List ℕ → List ℕ
 totalsLent (worked x) old = x .totals ++ drop 7 old
 totalsLent (refused n) old = old
 
+-- too few places for the totals are told before anything that `sheetOf` tells
 abbrev pub sheetHanded : List ℕ → List ℕ → List ℕ → SheetLent
 sheetHanded s out totals =
     cond (ltb (length totals) 7) (sheetLent 5 out totals)

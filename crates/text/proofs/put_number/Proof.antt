@@ -1,10 +1,9 @@
 -- `text::put_number` meets its contract. Assumes nothing.
-use Prim.Native.Nat.{_+_, _≤_, _<_}
-use mathlib.Core.Path.{_≡_, ap, sym, _∙_}
+use Prim.Native.Nat.{_<_}
+use mathlib.Core.Path.{ap, _∙_}
 use lib.ListN.{length}
 use native.Mathlib.Omega.{arith}
 use borrow.Author.Needs.{needs}
-use Rattle.text.specs.Text.{decimalText}
 use Rattle.text.proofs.Appended.{restated}
 use Rattle.text.proofs.Decimal.{decimal-digits}
 use Rattle.text.proofs.put_number.Statement.{statement}
