@@ -52,7 +52,7 @@ pub decimal-digits : (n k : ℕ) → n < 10 ^ 20 → Fewest 10 1 n k → digits 
 unfolding decimalText
 decimal-digits n k h f = up-to 19 n k h f
 
--- a number below 10 ^ m has at most m digits, and any at most 20
+-- a number below 10 ^ m has at most m digits, where m is 1 or more
 up-to-within : (more m n : ℕ) → n < 10 ^ suc m → length (decimalUpTo more n) ≤ suc m
 unfolding decimalUpTo
 up-to-within zero m n h = omega arith
