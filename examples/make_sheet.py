@@ -5,6 +5,7 @@
     target/bin/sheet < examples/sample.sheet
 
 What is printed of it ends with `total`, the number of rows with status 0 and the sums of their six counts.
+
 With --example it is document 01's example of two rows. With --weights and five numbers it is the sample under a league's own
 weights, from n320 to n50: its rows of Fast and Closest are stopped by 19, and weights that do not fall as they must are refused
 with the whole sheet, by 18. Numbers are little-endian; a missing field is all zero bytes.
