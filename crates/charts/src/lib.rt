@@ -5,10 +5,10 @@ ghost use lib.ListN.{length, getD, take};
 ghost use Rattle.charts.specs.Charts.{noChart, chartsAt};
 use inspect::Chart;
 
-// The n charts that start at a place of the sheet, in front; what fills the rest of the array is left open.
-pub fn read_charts(sheet: &[u8], at: usize, n: usize) -> [Chart; 256]
-    requires { ⌜ (at + 8 * n ≤ length (now sheet)) × (n ≤ 256) ⌝ }
-    ensures { λ r. ⌜ (take n r ≡ chartsAt (now (sheet .entry)) at n) × (length r ≡ 256) ⌝ }
+// The n charts that start at a place, in front; what fills the rest of the array is left open.
+pub fn read_charts(s: &[u8], at: usize, n: usize) -> [Chart; 256]
+    requires { ⌜ (at + 8 * n ≤ length (now s)) × (n ≤ 256) ⌝ }
+    ensures { λ r. ⌜ (take n r ≡ chartsAt (now (s .entry)) at n) × (length r ≡ 256) ⌝ }
 {
     let zero = Chart {
         n_objects: 0,
@@ -17,26 +17,18 @@ pub fn read_charts(sheet: &[u8], at: usize, n: usize) -> [Chart; 256]
     let mut charts = [zero; 256];
     let mut i: usize = 0;
     while i < n {
-        let chart = cursor::chart_from(sheet, at + 8 * i);
+        let chart = records::read_chart(s, at + 8 * i);
         charts[i] = chart;
         i += 1;
     }
     charts
 }
 
-// A row finds its chart in a lent list of chart records. The borrow checker does not cover a struct behind a slice, so this and
-// `chart_in` are proved by hand.
+// A row finds its chart in a lent list of chart records. The borrow checker does not cover a struct behind a slice, so this is proved
+// by hand.
 pub fn chart_at(charts: &[Chart], i: usize) -> Chart
     requires { ⌜ i < length (now charts) ⌝ }
     ensures { λ r. ⌜ r ≡ getD (now (charts .entry)) i noChart ⌝ }
 {
     charts[i]
-}
-
-// Lends the array: whoever calls it needs no walk.
-pub fn chart_in(charts: [Chart; 256], i: usize) -> Chart
-    requires { ⌜ i < 256 ⌝ }
-    ensures { λ r. ⌜ r ≡ getD charts i noChart ⌝ }
-{
-    chart_at(&charts, i)
 }

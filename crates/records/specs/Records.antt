@@ -2,7 +2,7 @@
 -- priority u8. 4: classic u8. 5: presence u8. .. 8, 12, 16, 20, 24, 28: the five counts and misses. 32: passed. 36: acc, f64 bits."
 -- Document 02, L2: "Queries become 48 bytes: byte 6 may be 1, and then a u32 at 44 says how many holds were passed", and byte 7 as
 -- before; L4: "five u32 weights from n320 to n50"; L6: "ten weights as 40 bytes of u32".
-use mathlib.Core.List.{List, []}
+use mathlib.Core.List.{List}
 use Prim.Native.Nat.{ℕ, _+_}
 use Rattle.little_endian.specs.Bytes.{byte, u16At, u32At, u64At}
 use Rattle.inspect.specs.declared.Chart.{Chart}
@@ -47,11 +47,6 @@ countsAt s at =
       n50 = u32At s (at + 24);
       misses = u32At s (at + 28);
     }
-
--- a query of no bytes: all zeros
-unfoldable pub noRow : Row
-unfolding rowAt
-noRow = rowAt [] 0
 
 -- the five weights that start at a place
 unfoldable pub weightsAt : List ℕ → ℕ → Weights

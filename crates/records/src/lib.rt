@@ -1,11 +1,16 @@
-// Records as numbers: a sheet's chart of 8 bytes and its query's row of 48, and five weights of 20.
+// Records as numbers: a section's count of 4 bytes, a sheet's chart of 8 and its query's row of 48, and five weights of 20.
 ghost use mathlib.Core.Path.{_≡_};
-ghost use Prim.Native.Nat.{_+_, _≤_};
+ghost use mathlib.Core.Bool.{cond};
+ghost use Prim.Native.Nat.{_+_, _*_, _≤_};
+ghost use lib.Dec.{eqb};
 ghost use lib.ListN.{length};
-ghost use Rattle.records.specs.Records.{chartAt, countsAt, rowAt, noRow, weightsAt};
+ghost use Rattle.little_endian.specs.Bytes.{u32At};
+ghost use Rattle.weighting.specs.declared.Scoring.the-variants.{Standard, Own};
+ghost use Rattle.records.specs.Records.{chartAt, countsAt, rowAt, weightsAt};
 use inspect::Chart;
 use score_state::HitResults;
 use score_state::Weights;
+use weighting::Scoring;
 
 // A query as it stands in the sheet: holds_given is byte 6, zero byte 7, acc the bits of its f64, holds_passed the last field.
 pub struct Row {
@@ -25,6 +30,13 @@ pub struct Row {
     pub passed: u32,
     pub acc: u64,
     pub holds_passed: u32,
+}
+
+pub fn read_count(s: &[u8], at: usize) -> usize
+    requires { ⌜ at + 4 ≤ length (now s) ⌝ }
+    ensures { λ r. ⌜ r ≡ u32At (now (s .entry)) at ⌝ }
+{
+    little_endian::u32_at(s, at) as usize
 }
 
 pub fn read_chart(s: &[u8], at: usize) -> Chart
@@ -89,30 +101,6 @@ pub fn read_row(s: &[u8], at: usize) -> Row
     }
 }
 
-// All zeros.
-pub fn no_row() -> Row
-    ensures { λ r. ⌜ r ≡ noRow ⌝ }
-{
-    Row {
-        chart: 0,
-        method: 0,
-        priority: 0,
-        classic: 0,
-        presence: 0,
-        holds_given: 0,
-        zero: 0,
-        n320: 0,
-        n300: 0,
-        n200: 0,
-        n100: 0,
-        n50: 0,
-        misses: 0,
-        passed: 0,
-        acc: 0,
-        holds_passed: 0,
-    }
-}
-
 // Five weights, from n320 to n50.
 pub fn read_weights(s: &[u8], at: usize) -> Weights
     requires { ⌜ at + 20 ≤ length (now s) ⌝ }
@@ -130,4 +118,15 @@ pub fn read_weights(s: &[u8], at: usize) -> Weights
         n100,
         n50,
     }
+}
+
+// By which weights a sheet's rows are scored: own sets of weights, none or one, start at a place.
+pub fn read_scoring(s: &[u8], at: usize, own: usize) -> Scoring
+    requires { ⌜ at + 20 * own ≤ length (now s) ⌝ }
+    ensures { λ r. ⌜ r ≡ cond (eqb own 0) Standard (Own (weightsAt (now (s .entry)) at)) ⌝ }
+{
+    if own == 0 {
+        return Scoring::Standard;
+    }
+    Scoring::Own(read_weights(s, at))
 }

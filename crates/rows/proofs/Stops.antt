@@ -1,14 +1,15 @@
 -- `foundAnswer` and `rowAnswer` from the facts that the code's tests leave.
 -- Assumes nothing.
-use mathlib.Core.Path.{_≡_, ap, sym, _∙_}
+use mathlib.Core.Path.{_≡_, refl, ap, sym, _∙_}
+use mathlib.Core.Bool.{Bool, true, false, cond}
 use mathlib.Core.List.{List}
 use Prim.Native.Nat.{ℕ, _≤_, _<_}
 use native.Mathlib.Omega.{arith}
-use lib.Dec.{eqb}
+use lib.Dec.{eqb, ltb}
 use lib.ListN.{length, take, getD}
 use lib.Seq.{length-take-le, getD-take}
-use borrow.Author.Tests.{eq-eqb, ne-eqb, lt-ltb, le-ltb}
-use Rattle.score_state.specs.Answer.{refused}
+use borrow.Author.Tests.{eq-eqb, ne-eqb, lt-ltb, le-ltb, ltb-true, ltb-false}
+use Rattle.score_state.specs.Answer.{refused, unless}
 use Rattle.inspect.specs.declared.Chart.{Chart}
 use Rattle.inspect.specs.declared.Query.{Query}
 use Rattle.weighting.specs.Scoring.{weightsBy}
@@ -46,3 +47,13 @@ module _ (sc : Scoring) where
   pub row-found : (row : Row) (charts : List Chart) (n : ℕ) → n ≤ length charts → row .chart < n → foundAnswer sc row (getD charts (row .chart) noChart) ≡ rowAnswer sc row (take n charts)
   row-found row charts n h k =
       ap (foundAnswer sc row) (sym (getD-take n charts (row .chart) noChart k)) ∙ sym (with-chart row (take n charts) (rw (length-take-le n charts h) k))
+
+  -- the same of the chart that is looked up: where the row names none of them, whichever stands at 0
+  pub looked-up
+      : (row : Row) (charts : List Chart) (n : ℕ) → n ≤ length charts
+      → unless (ltb (row .chart) n) 6 (foundAnswer sc row (getD charts (cond (ltb (row .chart) n) (row .chart) 0) noChart)) ≡ rowAnswer sc row (take n charts)
+  looked-up row charts n h = go (ltb (row .chart) n) refl
+    where
+      go : (b : Bool) → ltb (row .chart) n ≡ b → unless b 6 (foundAnswer sc row (getD charts (cond b (row .chart) 0) noChart)) ≡ rowAnswer sc row (take n charts)
+      go true k = row-found row charts n h (ltb-true (row .chart) n k)
+      go false k = row-stopped row charts n h (ltb-false (row .chart) n k)

@@ -1,12 +1,15 @@
 // A row of a sheet: its checks and its answer.
 ghost use mathlib.Core.Path.{_≡_};
-ghost use Prim.Native.Nat.{_<_, _≤_};
-ghost use mathlib.Core.Bool.{true};
-ghost use lib.ListN.{length, take};
+ghost use Prim.Native.Nat.{_+_, _<_, _≤_};
+ghost use mathlib.Core.Bool.{true, cond};
+ghost use lib.Dec.{ltb};
+ghost use lib.ListN.{length};
+ghost use Rattle.lists.specs.Lists.{put};
 ghost use Rattle.weighting.specs.Scoring.{allowed};
+ghost use Rattle.answers.specs.Answers.{answerBytes};
 ghost use Rattle.generate.specs.Generated.{generatedOf};
-ghost use Rattle.score_state.specs.Answer.{answerIn};
-ghost use Rattle.rows.specs.Rows.{leftOver, holdsLeft, fieldsLeft, unknownRow, ownUnfit, rowStop, foundAnswer, rowAnswer};
+ghost use Rattle.score_state.specs.Answer.{answerIn, unless};
+ghost use Rattle.rows.specs.Rows.{leftOver, holdsLeft, fieldsLeft, unknownRow, ownUnfit, rowStop, foundAnswer};
 use generate::Generated;
 use inspect::Chart;
 use records::Row;
@@ -144,16 +147,33 @@ fn found_answer(row: Row, chart: Chart, scoring: Scoring) -> Generated
     answer_of(status, numbers)
 }
 
-// The answer of a row, the sheet's charts being the first n.
-pub fn row_answer(row: Row, charts: [Chart; 256], n: usize, scoring: Scoring) -> Generated
-    requires { ⌜ (n ≤ 256) × (n ≤ length charts) ⌝ }
+// Where the chart that a row names stands among the n charts of a sheet; where it names none, a place whose chart check 6 leaves unused.
+pub fn chart_index(row: Row, n: usize) -> usize
+    requires { ⌜ n ≤ 256 ⌝ }
+    ensures { λ r. ⌜ (r ≡ cond (ltb (row .chart) n) (row .chart) 0) × (r < 256) ⌝ }
+{
+    let index = row.chart as usize;
+    if index < n { index } else { 0 }
+}
+
+// The answer of a row of a sheet with n charts, chart being the one that it names, if it names one of them.
+fn row_answer(row: Row, chart: Chart, n: usize, scoring: Scoring) -> Generated
     requires { ⌜ allowed scoring ≡ true ⌝ }
-    ensures { λ r. ⌜ generatedOf r ≡ rowAnswer scoring row (take n charts) ⌝ }
+    ensures { λ r. ⌜ generatedOf r ≡ unless (ltb (row .chart) n) 6 (foundAnswer scoring row chart) ⌝ }
 {
     let index = row.chart as usize;
     if index < n {
-        found_answer(row, charts::chart_in(charts, index), scoring)
+        found_answer(row, chart, scoring)
     } else {
         Generated::Refused(6)
     }
+}
+
+// The same answer, written at a place of the output.
+pub fn put_row(row: Row, chart: Chart, n: usize, scoring: Scoring, out: &mut [u8], at: usize)
+    requires { ⌜ (allowed scoring ≡ true) × (at + 36 ≤ length (now out)) ⌝ }
+    ensures { λ _. ⌜ now (out .exit) ≡ put (now (out .entry)) at (answerBytes (unless (ltb (row .chart) n) 6 (foundAnswer scoring row chart))) ⌝ }
+{
+    let answer = row_answer(row, chart, n, scoring);
+    answers::put_answer(out, at, answer);
 }

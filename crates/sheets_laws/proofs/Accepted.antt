@@ -10,10 +10,7 @@ use lib.ListN.{length}
 use borrow.Author.Tests.{eq-eqb, ne-eqb, ltb-false, not-false}
 use Rattle.little_endian.specs.Bytes.{u32At}
 use Rattle.score_state.specs.Answer.{worked}
-use Rattle.inspect.specs.declared.Chart.{Chart}
 use Rattle.weighting.specs.Scoring.{allowed}
-use Rattle.weighting.specs.declared.Scoring.{Scoring}
-use Rattle.charts.specs.Charts.{chartsAt}
 use Rattle.totals.specs.Totals.{totalsOver}
 use Rattle.sheets_laws.specs.Sheets.{chartCount, scoringAt, queriesAt, queryCount, rowsAt, scoringFrom, scoringOf, chartsStop, scoringStop, queriesStop, first, sheetStop, chartsOf, rowsWritten, stopped, finished, sheetOf}
 use Rattle.sheets_laws.proofs.Stops.{both-pass}
@@ -117,11 +114,8 @@ module _ (s out : List ℕ) where
   unfolding sheetOf
   sheet-worked e = rw (eq-eqb (sheetStop s (length out)) 0 e)
 
-  -- a: the count of charts; sc: the scoring; at: where the queries' count starts; b: their count; cs: the charts; o: what the rows leave;
-  -- ts: the totals of that
+  -- b: the count of queries; o: what their rows leave; ts: the totals of that
   pub sheet-from
-      : (a at b : ℕ) (sc : Scoring) (cs : List Chart) (o ts : List ℕ) → sheetStop s (length out) ≡ 0 → a ≡ u32At s 0 → sc ≡ scoringFrom s (4 + 8 * a)
-      → at ≡ 4 + 8 * a + 4 + 20 * u32At s (4 + 8 * a) → b ≡ u32At s at → cs ≡ chartsAt s 4 a → o ≡ rowsWritten s sc cs (at + 4) b out
+      : (b : ℕ) (o ts : List ℕ) → sheetStop s (length out) ≡ 0 → b ≡ queryCount s → o ≡ rowsWritten s (scoringOf s) (chartsOf s) (rowsAt s) (queryCount s) out
       → ts ≡ totalsOver o b → record { answer = worked (record { queries = b; totals = ts }); bytes = o } ≡ sheetOf s out
-  unfolding chartsOf
-  sheet-from a at b sc cs o ts e ea es ep eb ec eo et = rw (et, eo, ec, es, eb, ep, ea) (sheet-worked e)
+  sheet-from b o ts e eb eo et = rw (et, eo, eb) (sheet-worked e)

@@ -9,22 +9,22 @@ use Rattle.charts.proofs.read_charts.Tie as tie
 use Rattle.charts.specs.Charts.{noChart, chartsAt}
 
 abbrev Inv-loop : tie.InvT-loop
-Inv-loop sheet at n charts₀ i₀ charts i = (i ≤ n) × (length charts ≡ 256) × (take i charts ≡ chartsAt sheet at i)
+Inv-loop s at n charts₀ i₀ charts i = (i ≤ n) × (length charts ≡ 256) × (take i charts ≡ chartsAt s at i)
 
 abbrev μ-loop : tie.MeasureT-loop
-μ-loop sheet at n charts₀ i₀ charts i = n - i
+μ-loop s at n charts₀ i₀ charts i = n - i
 
 loop-holds : tie.Need-loop-holds Inv-loop μ-loop
-loop-holds c = let x = c .before .args in (omega arith, refl, charts-none (x .sheet .now) (x .at) (replicate 256 noChart))
+loop-holds c = let x = c .before .args in (omega arith, refl, charts-none (x .s .now) (x .at) (replicate 256 noChart))
 
-mul-chart-from : tie.Need-mul-chart-from Inv-loop μ-loop
-mul-chart-from c = omega arith
+mul-read-chart : tie.Need-mul-read-chart Inv-loop μ-loop
+mul-read-chart c = omega arith
 
-add-chart-from : tie.Need-add-chart-from Inv-loop μ-loop
-add-chart-from c = omega arith
+add-read-chart : tie.Need-add-read-chart Inv-loop μ-loop
+add-read-chart c = omega arith
 
-chart-from-requires : tie.Need-chart-from-requires Inv-loop μ-loop
-chart-from-requires c κs = omega arith
+read-chart-requires : tie.Need-read-chart-requires Inv-loop μ-loop
+read-chart-requires c κs = omega arith
 
 mul-charts : tie.Need-mul-charts Inv-loop μ-loop
 mul-charts c = omega arith
@@ -41,7 +41,7 @@ loop-less c = omega arith
 loop-again : tie.Need-loop-again Inv-loop μ-loop
 loop-again c =
     let l = c .before .before .loop in
-    (omega arith, length-set (l .charts) (l .i) _ ∙ l .inv .1, charts-next (c .before .before .before .before .args .sheet .now) (c .before .before .before .before .args .at) (l .charts) (l .i) _ (omega arith) (l .inv .2) (c .chart-from .ensures))
+    (omega arith, length-set (l .charts) (l .i) _ ∙ l .inv .1, charts-next (c .before .before .before .before .args .s .now) (c .before .before .before .before .args .at) (l .charts) (l .i) _ (omega arith) (l .inv .2) (c .read-chart .ensures))
 
 returns : tie.Need-returns Inv-loop μ-loop
 returns c =
@@ -56,9 +56,9 @@ read-charts-spec =
     Inv-loop
     μ-loop
     loop-holds
-    mul-chart-from
-    add-chart-from
-    chart-from-requires
+    mul-read-chart
+    add-read-chart
+    read-chart-requires
     mul-charts
     array-set-from-charts
     add-i

@@ -8,14 +8,11 @@ use Rattle.sheets.proofs.charts_stop.Tie as tie
 returns : tie.Need-returns
 returns c = ends-in-count (c .before .before .args .sheet .now) (omega arith)
 
-word-from-requires : tie.Need-word-from-requires
-word-from-requires c κs = search needs
-
-cast-charts : tie.Need-cast-charts
-cast-charts c = search needs
+read-count-requires : tie.Need-read-count-requires
+read-count-requires c κs = search needs
 
 returns-2 : tie.Need-returns-2
-returns-2 c = charts-over (c .before .before .before .before .args .sheet .now) (c .before .word-from .result) (c .before .word-from .ensures) (omega arith) (omega arith)
+returns-2 c = charts-over (c .before .before .before .before .args .sheet .now) (c .before .read-count .result) (c .before .read-count .ensures) (omega arith) (omega arith)
 
 mul-if3 : tie.Need-mul-if3
 mul-if3 c = search needs
@@ -24,12 +21,12 @@ add-if3 : tie.Need-add-if3
 add-if3 c = search needs
 
 returns-3 : tie.Need-returns-3
-returns-3 c = ends-in-charts (c .before .before .before .before .before .args .sheet .now) (c .before .before .word-from .result) (c .before .before .word-from .ensures) (omega arith) (omega arith) (omega arith)
+returns-3 c = ends-in-charts (c .before .before .before .before .before .args .sheet .now) (c .before .before .read-count .result) (c .before .before .read-count .ensures) (omega arith) (omega arith) (omega arith)
 
 returns-4 : tie.Need-returns-4
-returns-4 c = charts-pass (c .before .before .before .before .before .args .sheet .now) (c .before .before .word-from .result) (c .before .before .word-from .ensures) (omega arith) (omega arith) (omega arith)
+returns-4 c = charts-pass (c .before .before .before .before .before .args .sheet .now) (c .before .before .read-count .result) (c .before .before .read-count .ensures) (omega arith) (omega arith) (omega arith)
 
 pub charts-stop-spec : {M : Type 1} → statement M
 charts-stop-spec =
     tie.close
-    (tie.spec returns word-from-requires cast-charts returns-2 mul-if3 add-if3 returns-3 returns-4)
+    (tie.spec returns read-count-requires returns-2 mul-if3 add-if3 returns-3 returns-4)

@@ -7,7 +7,7 @@ use Rattle.sheets.proofs.queries_at.Statement.{statement}
 use Rattle.sheets.proofs.queries_at.Tie as tie
 
 returns : tie.Need-returns
-returns c = (ap (λ (n : ℕ). c .before .before .args .at + 4 + 20 * n) (c .word-from .ensures), omega arith)
+returns c = (ap (λ (n : ℕ). c .before .before .args .at + 4 + 20 * n) (c .read-count .ensures), omega arith)
 
 pub queries-at-spec : {M : Type 1} → statement M
 queries-at-spec =
@@ -15,7 +15,6 @@ queries-at-spec =
     (tie.spec
     (λ c. omega arith)
     (λ c κs. search needs)
-    (λ c. search needs)
     (λ c. omega arith)
     (λ c. omega arith)
     returns)
