@@ -17,7 +17,8 @@ use Rattle.weighting.specs.declared.Scoring.{Scoring}
 use Rattle.weighting.specs.declared.Scoring.the-variants.{Standard, Own}
 use Rattle.generate_laws.specs.Generate.{byMethod, scoredBy, scoredAnswer, answerBy, generateAnswer}
 use Rattle.records.specs.declared.Row.{Row}
-use Rattle.rows.specs.Rows.{fieldsLeft, unknownRow, ownUnfit, rowStop, queryOf, foundAnswer}
+use Rattle.row_checks.specs.RowChecks.{fieldsLeft, unknownRow, ownUnfit, rowStop}
+use Rattle.rows.specs.Rows.{queryOf, foundAnswer}
 use Rattle.rows.proofs.Stops.{found-stopped, found-worked}
 
 -- without own weights: 7, 8, 9, then what the direct call answers

@@ -18,7 +18,8 @@ use Rattle.generate_laws.specs.Generate.{scoredAnswer}
 use Rattle.generate_laws.specs.Reached.{onReached}
 use Rattle.generate_laws.proofs.Reached.{reached-scored}
 use Rattle.records.specs.declared.Row.{Row}
-use Rattle.rows.specs.Rows.{holdsLeft, fieldsLeft, unknownRow, rowStop, queryOf, foundAnswer}
+use Rattle.row_checks.specs.RowChecks.{holdsLeft, fieldsLeft, unknownRow, rowStop}
+use Rattle.rows.specs.Rows.{queryOf, foundAnswer}
 use Rattle.rows.specs.Reached.{reachedOf, inFull}
 
 pub row-in-full : (row : Row) (chart : Chart) → row .«holds_given» ≡ 0 → queryOf row chart .holds ≡ InFull

@@ -17,7 +17,8 @@ use Rattle.weighting.specs.declared.Scoring.{Scoring}
 use Rattle.generate_laws.specs.Generate.{scoredAnswer}
 use Rattle.records.specs.declared.Row.{Row}
 use Rattle.charts.specs.Charts.{noChart}
-use Rattle.rows.specs.Rows.{rowStop, queryOf, foundAnswer, rowAnswer}
+use Rattle.row_checks.specs.RowChecks.{rowStop}
+use Rattle.rows.specs.Rows.{queryOf, foundAnswer, rowAnswer}
 
 module _ (sc : Scoring) where
   -- ---- a row whose chart is found

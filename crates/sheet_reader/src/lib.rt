@@ -30,7 +30,7 @@ fn work_row<'a, 'b, 'c>(
 {
     let query = cursor::read(r, 48);
     let row = records::read_row(query.bytes, 0);
-    let index = rows::chart_index(row, count);
+    let index = row_checks::chart_index(row, count);
     let chart = charts::chart_at(charts, index);
     rows::put_row(row, chart, count, scoring, out, at);
     query.rest

@@ -16,7 +16,8 @@ use Rattle.generate_laws.specs.Generate.{foundOf, nearestOf, byMethod, scoredBy
 use Rattle.little_endian.specs.Bytes.{bytes4}
 use Rattle.records.specs.Records.{chartAt, rowAt}
 use Rattle.charts.specs.Charts.{chartsAt}
-use Rattle.rows.specs.Rows.{leftOver, holdsLeft, fieldsLeft, unknownRow, ownUnfit, rowStop, queryOf, foundAnswer, rowAnswer}
+use Rattle.row_checks.specs.RowChecks.{leftOver, holdsLeft, fieldsLeft, unknownRow, ownUnfit, rowStop}
+use Rattle.rows.specs.Rows.{queryOf, foundAnswer, rowAnswer}
 use Rattle.answers.specs.Answers.{fieldBytes, answerBytes}
 use Rattle.sheets_laws.specs.Sheets.{scoringFrom, chartsStop, scoringStop, queriesStop, sheetStop, chartsOf, rowOf, rowsWritten, sheetOf}
 use Rattle.totals.specs.Totals.{totalsOf}

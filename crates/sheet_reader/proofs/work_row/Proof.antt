@@ -76,10 +76,10 @@ use Rattle.records.proofs.read_row as read-row
 use Rattle.records.proofs.read_row.Symbol as read-row-def
 use Rattle.records.proofs.read_row.Symbol.{name as #records·read-row}
 use Rattle.records.proofs.read_row.Met as read-row-thm
-use Rattle.rows.proofs.chart_index as chart-index
-use Rattle.rows.proofs.chart_index.Symbol as chart-index-def
-use Rattle.rows.proofs.chart_index.Symbol.{name as #rows·chart-index}
-use Rattle.rows.proofs.chart_index.Met as chart-index-thm
+use Rattle.row_checks.proofs.chart_index as chart-index
+use Rattle.row_checks.proofs.chart_index.Symbol as chart-index-def
+use Rattle.row_checks.proofs.chart_index.Symbol.{name as #row-checks·chart-index}
+use Rattle.row_checks.proofs.chart_index.Met as chart-index-thm
 use Rattle.charts.proofs.chart_at as chart-at
 use Rattle.charts.proofs.chart_at.Symbol as chart-at-def
 use Rattle.charts.proofs.chart_at.Symbol.{name as #charts·chart-at}
@@ -246,7 +246,7 @@ module _ {M : Type 1} (𝓤 : URA M) (H : Heap 𝓤) (A : Atoms 𝓤) (W : Given
       nothing ! $ move ! (3 ∷ 0 ∷ []) $ join ! $ move ! (2 ∷ 0 ∷ []) $ join ! $ move ! (1 ∷ 0 ∷ []) $ join ! $ frame ! $
       nothing ! $ nothing ! $ fjoin ! $ move ! (1 ∷ 0 ∷ []) $ fjoin ! $ nothing ! $ fjoin ! $ nothing ! $ fjoin ! $ nothing ! $ fjoin ! $ nothing ! $ fjoin ! $ done !
 
-  module _ (C : Calls 𝓤 H) (Λ : Loops 𝓤 H) (fm : FmC 𝓤 H (W .laws) C) (known-read : Triple 𝓤 (C #cursor·read) (ReadCall 𝓤 H A mem run)) (known-row : Triple 𝓤 (C #records·read-row) (ReadRow 𝓤 H A mem run)) (known-index : Triple 𝓤 (C #rows·chart-index) (Index 𝓤 H A mem run)) (known-chart : Triple 𝓤 (C #charts·chart-at) (ChartAt 𝓤 H A mem run)) (known-put : Triple 𝓤 (C #rows·put-row) (PutRow 𝓤 H A mem run)) where
+  module _ (C : Calls 𝓤 H) (Λ : Loops 𝓤 H) (fm : FmC 𝓤 H (W .laws) C) (known-read : Triple 𝓤 (C #cursor·read) (ReadCall 𝓤 H A mem run)) (known-row : Triple 𝓤 (C #records·read-row) (ReadRow 𝓤 H A mem run)) (known-index : Triple 𝓤 (C #row-checks·chart-index) (Index 𝓤 H A mem run)) (known-chart : Triple 𝓤 (C #charts·chart-at) (ChartAt 𝓤 H A mem run)) (known-put : Triple 𝓤 (C #rows·put-row) (PutRow 𝓤 H A mem run)) where
     walk : Is (B κs) d (mach ∷ []) → Is (ShrSlice (named 1) κ′ Ch.the-row) cs (vc ∷ []) → Is Sc.the-row sc (vsc ∷ []) → Room u8 (length ys) → ent 𝓤 (onEntry 𝓤 H A this.signature κs (q, (q′, (q″, tt))) a at) (WpFn 𝓤 H C Λ code.function (mach ∷ vc ∷ vint w64 count ∷ vsc ∷ vo ∷ vint w64 n ∷ []) Post)
     walk p pc psc room =
         qed W ((‵ (flft κ q) ⊛ ‵ (flft κ′ q′) ⊛ ‵ (flft κ″ q″) ⊛ ‵ ftrue) ∷ ‵ (owns (B κs ∷ ShrSlice (named 1) κ′ Ch.the-row ∷ usize ∷ Sc.the-row ∷ MutSlice (named 2) κ″ u8 ∷ usize ∷ []) a at) ∷ []) ∵
@@ -300,7 +300,7 @@ module _ {M : Type 1} (𝓤 : URA M) (H : Heap 𝓤) (A : Atoms 𝓤) (W : Given
         keep ! (3 ∷ 2 ∷ 0 ∷ 1 ∷ 4 ∷ []) $ by ! (exits (x .rest) (zs .1 .1 .1 .1 .0) (ex .1, ex .2) (all-told x r i c (zs .1 .1 .1 .1 .0) ex er ei ec ez) l))))))))))))))))))))))))))))))))))))))))
 
 module _ {M : Type 1} (𝓤 : URA M) (H : Heap 𝓤) (A : Atoms 𝓤) (W : Given 𝓤 H A) (mem : Memory → SProp 𝓤) (run : Routine → Fun 𝓤) where
-  row-walks : (C : Calls 𝓤 H) (Λ : Loops 𝓤 H) → FmC 𝓤 H (W .laws) C → Triple 𝓤 (C #cursor·read) (ReadCall 𝓤 H A mem run) → Triple 𝓤 (C #records·read-row) (ReadRow 𝓤 H A mem run) → Triple 𝓤 (C #rows·chart-index) (Index 𝓤 H A mem run) → Triple 𝓤 (C #charts·chart-at) (ChartAt 𝓤 H A mem run) → Triple 𝓤 (C #rows·put-row) (PutRow 𝓤 H A mem run)
+  row-walks : (C : Calls 𝓤 H) (Λ : Loops 𝓤 H) → FmC 𝓤 H (W .laws) C → Triple 𝓤 (C #cursor·read) (ReadCall 𝓤 H A mem run) → Triple 𝓤 (C #records·read-row) (ReadRow 𝓤 H A mem run) → Triple 𝓤 (C #row-checks·chart-index) (Index 𝓤 H A mem run) → Triple 𝓤 (C #charts·chart-at) (ChartAt 𝓤 H A mem run) → Triple 𝓤 (C #rows·put-row) (PutRow 𝓤 H A mem run)
       → Walks 𝓤 H A this.ended stayed (WpFn 𝓤 H C Λ code.function) (this.clauses 𝓤 H A mem run)
   row-walks C Λ fm known-read known-row known-index known-chart known-put = walked 𝓤 H A this.ended stayed (this.clauses 𝓤 H A mem run) (WpFn 𝓤 H C Λ code.function)
       (λ κs. (LL.vals (T.the-type (namedLft 3 0 tt κs)) (T′.the-laws (namedLft 3 0 tt κs)), (slice-vals, (uint-vals w64, (EL.vals Sc.the-type Sc′.the-laws, (slice-vals, (uint-vals w64, tt)))))))
@@ -310,7 +310,7 @@ module _ {M : Type 1} (𝓤 : URA M) (H : Heap 𝓤) (A : Atoms 𝓤) (W : Given
       (are .1 .1 .0 .1) (are .1 .1 .1 .1 .1 .0 .1) need C Λ fm known-read known-row known-index known-chart known-put (are .0) (are .1 .0) (are .1 .1 .1 .0) (are .1 .1 .1 .1 .0 .0 .1)))
 
 row-meets : {M : Type 1} (𝓤 : URA M) (H : Heap 𝓤) (A : Atoms 𝓤) (W : Given 𝓤 H A) (mem : Memory → SProp 𝓤) (run : Routine → Fun 𝓤) (𝓣 : Tables 𝓤 H)
-    → Triple 𝓤 (𝓣 .C #cursor·read) (ReadCall 𝓤 H A mem run) → Triple 𝓤 (𝓣 .C #records·read-row) (ReadRow 𝓤 H A mem run) → Triple 𝓤 (𝓣 .C #rows·chart-index) (Index 𝓤 H A mem run) → Triple 𝓤 (𝓣 .C #charts·chart-at) (ChartAt 𝓤 H A mem run) → Triple 𝓤 (𝓣 .C #rows·put-row) (PutRow 𝓤 H A mem run)
+    → Triple 𝓤 (𝓣 .C #cursor·read) (ReadCall 𝓤 H A mem run) → Triple 𝓤 (𝓣 .C #records·read-row) (ReadRow 𝓤 H A mem run) → Triple 𝓤 (𝓣 .C #row-checks·chart-index) (Index 𝓤 H A mem run) → Triple 𝓤 (𝓣 .C #charts·chart-at) (ChartAt 𝓤 H A mem run) → Triple 𝓤 (𝓣 .C #rows·put-row) (PutRow 𝓤 H A mem run)
     → Meets 𝓤 H A this.signature (WpFn 𝓤 H (𝓣 .C) (𝓣 .Λ) code.function) (this.spec 𝓤 H A mem run)
 row-meets 𝓤 H A W mem run 𝓣 known-read known-row known-index known-chart known-put = walk-meets 𝓤 H A this.ended stayed W
     (goes-dropped 𝓤 H A W 3 (plain B) yes (λ κs x f. refl), (goes-dropped 𝓤 H A W 3 Charts yes (λ κs x f. refl), (goes-dropped 𝓤 H A W 3 (plain (λ _. usize)) yes (λ κs x f. refl), (goes-dropped 𝓤 H A W 3 (plain (λ _. Sc.the-row)) yes (λ κs x f. refl), (goes-gave-slice 𝓤 H A W 3 2 tt (plain (λ _. u8)), (goes-dropped 𝓤 H A W 3 (plain (λ _. usize)) yes (λ κs x f. refl), tt))))))
@@ -325,6 +325,6 @@ work-row-spec 𝓤 H 𝓜 𝓖 𝓡 =
     (row-meets 𝓤 H (𝓖 .A) (givenOf 𝓤 H 𝓜 𝓖) (𝓜 .mem) (𝓡 .run) (tablesOf 𝓤 H 𝓜 (tables 𝓤 H 𝓜 𝓡 code.env))
     (cited 𝓤 H (ReadCall 𝓤 H (𝓖 .A) (𝓜 .mem) (𝓡 .run)) 𝓜 𝓡 code.env #cursor·read read-def.routine code.calls-cursor·read (read-thm.met 𝓤 H 𝓜 𝓖 𝓡))
     (cited 𝓤 H (ReadRow 𝓤 H (𝓖 .A) (𝓜 .mem) (𝓡 .run)) 𝓜 𝓡 code.env #records·read-row read-row-def.routine code.calls-records·read-row (read-row-thm.met 𝓤 H 𝓜 𝓖 𝓡))
-    (cited 𝓤 H (Index 𝓤 H (𝓖 .A) (𝓜 .mem) (𝓡 .run)) 𝓜 𝓡 code.env #rows·chart-index chart-index-def.routine code.calls-rows·chart-index (chart-index-thm.met 𝓤 H 𝓜 𝓖 𝓡))
+    (cited 𝓤 H (Index 𝓤 H (𝓖 .A) (𝓜 .mem) (𝓡 .run)) 𝓜 𝓡 code.env #row-checks·chart-index chart-index-def.routine code.calls-row-checks·chart-index (chart-index-thm.met 𝓤 H 𝓜 𝓖 𝓡))
     (cited 𝓤 H (ChartAt 𝓤 H (𝓖 .A) (𝓜 .mem) (𝓡 .run)) 𝓜 𝓡 code.env #charts·chart-at chart-at-def.routine code.calls-charts·chart-at (chart-at-thm.met 𝓤 H 𝓜 𝓖 𝓡))
     (cited 𝓤 H (PutRow 𝓤 H (𝓖 .A) (𝓜 .mem) (𝓡 .run)) 𝓜 𝓡 code.env #rows·put-row put-row-def.routine code.calls-rows·put-row (put-row-thm.met 𝓤 H 𝓜 𝓖 𝓡)))

@@ -1,10 +1,10 @@
--- `rows::own_unfit` meets its contract. Assumes nothing.
+-- `row_checks::own_unfit` meets its contract. Assumes nothing.
 use mathlib.Core.Path.{sym, ap}
 use Rattle.weighting.specs.declared.Scoring.{Scoring}
 use borrow.Author.Needs.{needs}
-use Rattle.rows.specs.Rows.{ownUnfit}
-use Rattle.rows.proofs.own_unfit.Statement.{statement}
-use Rattle.rows.proofs.own_unfit.Tie as tie
+use Rattle.row_checks.specs.RowChecks.{ownUnfit}
+use Rattle.row_checks.proofs.own_unfit.Statement.{statement}
+use Rattle.row_checks.proofs.own_unfit.Tie as tie
 
 enum-told : tie.Need-enum-told
 enum-told c = search needs

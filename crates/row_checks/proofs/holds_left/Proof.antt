@@ -1,10 +1,10 @@
--- `rows::holds_left` meets its contract. Assumes nothing.
+-- `row_checks::holds_left` meets its contract. Assumes nothing.
 use mathlib.Core.Path.{_≡_, refl}
 use mathlib.Core.Bool.{Bool, true, false, _||_}
 use borrow.Author.Tests.{ne-eqb}
-use Rattle.rows.specs.Rows.{holdsLeft}
-use Rattle.rows.proofs.holds_left.Statement.{statement}
-use Rattle.rows.proofs.holds_left.Tie as tie
+use Rattle.row_checks.specs.RowChecks.{holdsLeft}
+use Rattle.row_checks.proofs.holds_left.Statement.{statement}
+use Rattle.row_checks.proofs.holds_left.Tie as tie
 
 or-nothing : (b : Bool) → b ≡ b || false
 or-nothing true = refl

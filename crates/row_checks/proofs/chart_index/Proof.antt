@@ -1,9 +1,9 @@
--- `rows::chart_index` meets its contract. Assumes nothing.
+-- `row_checks::chart_index` meets its contract. Assumes nothing.
 use native.Mathlib.Omega.{arith}
 use borrow.Author.Needs.{needs}
 use borrow.Author.Tests.{lt-ltb, le-ltb}
-use Rattle.rows.proofs.chart_index.Statement.{statement}
-use Rattle.rows.proofs.chart_index.Tie as tie
+use Rattle.row_checks.proofs.chart_index.Statement.{statement}
+use Rattle.row_checks.proofs.chart_index.Tie as tie
 
 cast-index : tie.Need-cast-index
 cast-index c = search needs
