@@ -1,7 +1,8 @@
 /* Nuqsillay: judgement counts of osu!mania plays. Link target/staticlib/libnuqsillay.a, which `rt staticlib nuqsillay` writes.
  * docs/RULES.md tells the words, the records and the checks.
  *
- * Each call answers NUQSILLAY_OK, or the number of the check that refuses its input; a refused call leaves its outputs as they were.
+ * Each call answers NUQSILLAY_OK, or the number of the check that refuses its input; a refused call leaves its outputs as they were,
+ * but for told of the last two calls, which tells of the refusal. nuqsillay_sheet_of alone has numbers of its own, the faults of a text.
  * No call allocates, keeps a pointer, or fails otherwise. Pointers must not be null; an array is a pointer and its length. */
 #ifndef NUQSILLAY_H
 #define NUQSILLAY_H
@@ -114,6 +115,20 @@ uint32_t nuqsillay_work_sheet(const uint8_t *sheet, size_t sheet_len, uint8_t *o
  * past the 320th stay. Refused by 18, 5, in that order. */
 uint32_t nuqsillay_strides(uint32_t a320, uint32_t a300, uint32_t a200, uint32_t a100, uint32_t a50, uint32_t b320,
                            uint32_t b300, uint32_t b200, uint32_t b100, uint32_t b50, uint32_t *out, size_t out_len);
+
+/* The sheet of a text that is typed (docs/RULES.md, 'A typed sheet'), to the front of out; bytes past it stay. Returns 0 with told[0] the
+ * sheet's length; or the number of the text's first fault, 1 to 14, with told[0] its line (from 1), told[1] where its word starts in
+ * text (from 0) and told[2] the word's length; or 15: out_len is under the sheet's length (at most 51,232), or told_len under 3, which
+ * is asked first. Whatever is not 0 leaves out as it was; 15 leaves told too. text, out and told must not overlap. */
+uint32_t nuqsillay_sheet_of(const uint8_t *text, size_t text_len, uint8_t *out, size_t out_len, uint64_t *told,
+                            size_t told_len);
+
+/* The text of a sheet, to the front of out; bytes past it stay. Returns 0 with told[0] the text's length; 1, 2, 3, 4 or 18, as
+ * nuqsillay_work_sheet refuses a sheet; 8 or 9 with told[0] the index of the first row that one of them stops; or 5: out_len is under
+ * the text's length, after these, or told_len is 0, before anything else. Whatever is not 0 leaves out as it was. sheet, out and told
+ * must not overlap. */
+uint32_t nuqsillay_text_of(const uint8_t *sheet, size_t sheet_len, uint8_t *out, size_t out_len, uint64_t *told,
+                           size_t told_len);
 
 #ifdef __cplusplus
 }

@@ -1,7 +1,10 @@
 //! Shows the compiler the repository's files, unchanged and where they lie, and the linker the
 //! library.
 
-use std::{env, fs, path::PathBuf};
+use std::{
+    env, fs,
+    path::{Path, PathBuf},
+};
 
 /// The modules that the repository's files expect around themselves. The paths get their folder
 /// below. Dead code is allowed because the files offer more than is used here.
@@ -89,4 +92,19 @@ fn main() {
     println!("cargo::rustc-link-search=native={}", library.display());
     println!("cargo::rustc-link-lib=static=nuqsillay");
     println!("cargo::rustc-link-lib=m");
+
+    // Part typed calls what a library may not have yet.
+    println!("cargo::rustc-check-cfg=cfg(typed_calls)");
+
+    if has_typed_calls(&library.join("libnuqsillay.a")) {
+        println!("cargo::rustc-cfg=typed_calls");
+    }
+}
+
+/// Whether both calls for typed sheets are named in the library.
+fn has_typed_calls(library: &Path) -> bool {
+    let bytes = fs::read(library).unwrap_or_default();
+    let names = |name: &[u8]| bytes.windows(name.len()).any(|part| part == name);
+
+    names(b"nuqsillay_sheet_of\0") && names(b"nuqsillay_text_of\0")
 }

@@ -11,6 +11,8 @@ ghost use Rattle.generate_laws.specs.Generate.{generateAnswer};
 ghost use Rattle.direct.specs.Direct.{sixCounts, lent, handed, queryBy};
 ghost use Rattle.totals.specs.Totals.{sevenOf};
 ghost use Rattle.stride_table.specs.StrideTable.{tableStatus, tableOut};
+ghost use Rattle.typed_call.specs.Told.{lentBy, sheetTold};
+ghost use Rattle.text_call.specs.TextTold.{textTold};
 ghost use Rattle.nuqsillay.specs.Exports.{valueOr, targetQuery, sheetLent, sheetHanded, fiveWeights};
 use inspect::Accuracy;
 use inspect::Chart;
@@ -241,4 +243,21 @@ pub extern "C" fn nuqsillay_strides(
         n50: b50,
     };
     stride_table::fill_strides(first, second, out)
+}
+
+// The sheet of a text that is typed, at the front of out: 0 with its length in told; or the number of the text's first fault, with its line, where
+// its word starts and the word's length; or 15.
+#[no_mangle]
+pub extern "C" fn nuqsillay_sheet_of(text: &[u8], out: &mut [u8], told: &mut [u64]) -> u32
+    ensures { λ r. ⌜ lentBy r (now (out .exit)) (now (told .exit)) ≡ sheetTold (now (text .entry)) (now (out .entry)) (now (told .entry)) ⌝ }
+{
+    typed_call::sheet_of(text, out, told)
+}
+
+// The text of a sheet, at the front of out: 0 with its length in told; or the number that refuses the sheet, or with its index a row.
+#[no_mangle]
+pub extern "C" fn nuqsillay_text_of(sheet: &[u8], out: &mut [u8], told: &mut [u64]) -> u32
+    ensures { λ r. ⌜ lentBy r (now (out .exit)) (now (told .exit)) ≡ textTold (now (sheet .entry)) (now (out .entry)) (now (told .entry)) ⌝ }
+{
+    text_call::text_of(sheet, out, told)
 }

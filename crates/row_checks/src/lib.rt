@@ -28,7 +28,7 @@ fn holds_left(given: u8, nonzero: bool) -> bool
 }
 
 // Check 9.
-fn fields_left(row: Row) -> bool
+pub fn fields_left(row: Row) -> bool
     ensures { λ r. ⌜ r ≡ fieldsLeft row ⌝ }
 {
     let p = row.presence;
@@ -45,7 +45,7 @@ fn fields_left(row: Row) -> bool
 }
 
 // Check 8.
-fn unknown_row(row: Row) -> bool
+pub fn unknown_row(row: Row) -> bool
     ensures { λ r. ⌜ r ≡ unknownRow row ⌝ }
 {
     if row.method > 3 {

@@ -91,7 +91,7 @@ fn queries_at(sheet: &[u8], at: usize) -> usize
 }
 
 // The checks of a sheet, section by section, for an output of this many bytes: the first that stops it, or 0.
-fn sheet_stop(sheet: &[u8], room: usize) -> u32
+pub fn sheet_stop(sheet: &[u8], room: usize) -> u32
     ensures { λ r. ⌜ r ≡ sheetStop (now (sheet .entry)) room ⌝ }
 {
     let charts = charts_stop(sheet);

@@ -4,7 +4,7 @@
 //! The repository's files are compiled unchanged from where they lie (build.rs), among the few
 //! types that they ask for (repo.rs). The library is linked through its C interface (ours.rs).
 //! Nearest, which is not the repository's, has a plain walk written from document 01 beside it, for any
-//! weights.
+//! weights. Typed sheets have a reader and a writer written from their page alone.
 //!
 //! `run [part ..]` builds and runs the parts that `PARTS` lists; all of them if none is named. `run
 //! parts` prints their names. Each but bench ends with a line
@@ -31,6 +31,7 @@ mod list;
 mod nearest;
 mod ours;
 mod own_sheets;
+mod percent;
 mod plain;
 mod plays;
 mod program;
@@ -45,6 +46,11 @@ mod strides;
 mod tally;
 mod target;
 mod totals_sheets;
+mod typed;
+mod typed_back;
+mod typed_inputs;
+mod typed_texts;
+mod typed_told;
 
 // The repository's modules, which expect to stand at the root.
 include!(concat!(env!("OUT_DIR"), "/tree.rs"));
@@ -52,7 +58,7 @@ include!(concat!(env!("OUT_DIR"), "/tree.rs"));
 /// The parts in their order, each with what runs it and says whether nothing differed.
 type Part = (&'static str, fn(&mut Rng) -> bool);
 
-const PARTS: [Part; 13] = [
+const PARTS: [Part; 14] = [
     ("accuracy", accuracy::run),
     ("target", target::run),
     ("ignore_acc", |rng| plain::run(Method::IgnoreAcc, rng)),
@@ -65,6 +71,7 @@ const PARTS: [Part; 13] = [
     ("holds", holds::run),
     ("sheets", sheets::run),
     ("rising", rising::run),
+    ("typed", typed_texts::run),
     ("bench", |rng| {
         bench::run(rng);
         true

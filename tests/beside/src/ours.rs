@@ -74,6 +74,72 @@ unsafe extern "C" {
     ) -> u32;
 }
 
+#[cfg(typed_calls)]
+unsafe extern "C" {
+    fn nuqsillay_sheet_of(
+        text: *const u8,
+        text_len: usize,
+        out: *mut u8,
+        out_len: usize,
+        told: *mut u64,
+        told_len: usize,
+    ) -> u32;
+
+    fn nuqsillay_text_of(
+        sheet: *const u8,
+        sheet_len: usize,
+        out: *mut u8,
+        out_len: usize,
+        told: *mut u64,
+        told_len: usize,
+    ) -> u32;
+}
+
+/// Whether the library has the calls for typed sheets; build.rs looks for them.
+pub const HAS_TYPED: bool = cfg!(typed_calls);
+
+/// `told` is what the call tells: the sheet's length, or a fault's line and word.
+#[cfg(typed_calls)]
+pub fn sheet_of(text: &[u8], out: &mut [u8], told: &mut [u64]) -> u32 {
+    // SAFETY: the call reads and writes only inside the slices whose lengths it is told.
+    unsafe {
+        nuqsillay_sheet_of(
+            text.as_ptr(),
+            text.len(),
+            out.as_mut_ptr(),
+            out.len(),
+            told.as_mut_ptr(),
+            told.len(),
+        )
+    }
+}
+
+/// `told` is what the call tells: the text's length, or the index of the row that has none.
+#[cfg(typed_calls)]
+pub fn text_of(sheet: &[u8], out: &mut [u8], told: &mut [u64]) -> u32 {
+    // SAFETY: the call reads and writes only inside the slices whose lengths it is told.
+    unsafe {
+        nuqsillay_text_of(
+            sheet.as_ptr(),
+            sheet.len(),
+            out.as_mut_ptr(),
+            out.len(),
+            told.as_mut_ptr(),
+            told.len(),
+        )
+    }
+}
+
+#[cfg(not(typed_calls))]
+pub fn sheet_of(_text: &[u8], _out: &mut [u8], _told: &mut [u64]) -> u32 {
+    unreachable!("the library does not read typed sheets");
+}
+
+#[cfg(not(typed_calls))]
+pub fn text_of(_sheet: &[u8], _out: &mut [u8], _told: &mut [u64]) -> u32 {
+    unreachable!("the library does not write typed sheets");
+}
+
 /// `counts` are the five counts and misses.
 pub fn accuracy(counts: &[u32; 6], classic: bool, value: &mut f64) -> u32 {
     let [n320, n300, n200, n100, n50, misses] = *counts;

@@ -1,7 +1,7 @@
 //! A program of the repository, run on an input as a user would.
 
 use std::{
-    env,
+    env, fmt,
     io::{self, Write},
     path::PathBuf,
     process::{Command, Output, Stdio},
@@ -23,6 +23,11 @@ impl Program {
             path: PathBuf::from(root).join("target/bin").join(name),
             runs: 0,
         }
+    }
+
+    /// Whether it was built.
+    pub fn there(&self) -> bool {
+        self.path.exists()
     }
 
     fn output(&self, input: &[u8]) -> io::Result<Output> {
@@ -56,6 +61,46 @@ impl Program {
                 Err(e) => format!("{program}: {e}"),
             }
         });
+    }
+}
+
+impl Program {
+    /// Compares what it writes of an input to standard output and to standard error. How it ends is asked only
+    /// where nothing is to stand on standard error.
+    pub fn compare_both(&mut self, tally: &mut Tally, input: &[u8], out: &[u8], err: &[u8]) {
+        self.runs += 1;
+        let ours = self.output(input);
+
+        let same = ours.as_ref().is_ok_and(|ours| {
+            ours.stdout == out && ours.stderr == err && (ours.status.success() || !err.is_empty())
+        });
+
+        tally.judge(same, || {
+            let program = self.path.display();
+            match ours {
+                Ok(ours) => format!(
+                    "{program}: {}, \"{}\" and \"{}\", expected \"{}\" and \"{}\"; {}",
+                    ours.status,
+                    ours.stdout.escape_ascii(),
+                    ours.stderr.escape_ascii(),
+                    out.escape_ascii(),
+                    err.escape_ascii(),
+                    hex(input)
+                ),
+                Err(e) => format!("{program}: {e}"),
+            }
+        });
+    }
+}
+
+impl fmt::Display for Program {
+    fn fmt(&self, f: &mut fmt::Formatter<'_>) -> fmt::Result {
+        let name = self.path.file_name().unwrap_or_default().display();
+
+        match self.there() {
+            true => write!(f, "{} inputs through the program {name}", self.runs),
+            false => write!(f, "no program {name}"),
+        }
     }
 }
 

@@ -258,7 +258,7 @@ impl Part<'_> {
 }
 
 /// What the program prints.
-fn text(answers: &Result<Vec<Answer>, u32>) -> String {
+pub fn text(answers: &Result<Vec<Answer>, u32>) -> String {
     let answers = match answers {
         Ok(answers) => answers,
         Err(status) => return format!("refused {status}\n"),

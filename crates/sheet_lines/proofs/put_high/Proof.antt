@@ -1,0 +1,69 @@
+-- `sheet_lines::put_high` meets its contract. Assumes nothing.
+use mathlib.Core.List.{_++_}
+use native.Mathlib.Omega.{arith}
+use borrow.Author.Needs.{needs}
+use Rattle.inspect.specs.Presence.{has}
+use Rattle.text.proofs.Appended.{followed, restated}
+use Rattle.typed_line.specs.Keywords.{n320, n300, n200}
+use Rattle.sheet_lines.specs.Lines.{numbered, highWords}
+use Rattle.sheet_lines.proofs.Pieces.{two}
+use Rattle.sheet_lines.proofs.put_high.Statement.{statement}
+use Rattle.sheet_lines.proofs.put_high.Tie as tie
+
+is-given-requires : tie.Need-is-given-requires
+is-given-requires c κs = search needs
+
+slice-aggregate-put-option : tie.Need-slice-aggregate-put-option
+slice-aggregate-put-option c = search needs
+
+put-option-requires : tie.Need-put-option-requires
+put-option-requires c κs = search needs
+
+is-given-requires-2 : tie.Need-is-given-requires-2
+is-given-requires-2 c κs = search needs
+
+slice-aggregate-put-option-2 : tie.Need-slice-aggregate-put-option-2
+slice-aggregate-put-option-2 c = search needs
+
+put-option-requires-2 : tie.Need-put-option-requires-2
+put-option-requires-2 c κs = search needs
+
+is-given-requires-3 : tie.Need-is-given-requires-3
+is-given-requires-3 c κs = search needs
+
+slice-aggregate-put-option-3 : tie.Need-slice-aggregate-put-option-3
+slice-aggregate-put-option-3 c = search needs
+
+put-option-requires-3 : tie.Need-put-option-requires-3
+put-option-requires-3 c κs = search needs
+
+same-length : tie.Need-same-length
+same-length c = search needs
+
+returns : tie.Need-returns
+unfolding highWords n320 n300 n200
+returns c =
+    let x = c .before .before .before .before .before .before .before .before .before .before .before .before .before .before .before .before .before .before .before .args .row in
+    let p = rw (c .before .before .before .before .before .before .before .before .before .before .before .before .before .before .before .before .is-given .ensures) at (c .before .before .before .before .before .before .before .before .before .before .before .before .before .before .put-option .ensures .0) in
+    let q = rw (c .before .before .before .before .before .before .before .before .before .before .is-given2 .ensures) at (c .before .before .before .before .before .before .before .before .put-option2 .ensures .0) in
+    let r = rw (c .before .before .before .before .is-given3 .ensures) at (c .before .before .put-option3 .ensures .0) in
+    let a = numbered (has (x .presence) 1) n320 (x .n320) in
+    let b = numbered (has (x .presence) 2) n300 (x .n300) in
+    let d = numbered (has (x .presence) 4) n200 (x .n200) in
+    (restated (followed (restated (followed p q (omega arith)) (two a b)) r (omega arith)) (two (a ++ b) d), omega arith)
+
+pub put-high-spec : {M : Type 1} → statement M
+put-high-spec =
+    tie.close
+    (tie.spec
+    is-given-requires
+    slice-aggregate-put-option
+    put-option-requires
+    is-given-requires-2
+    slice-aggregate-put-option-2
+    put-option-requires-2
+    is-given-requires-3
+    slice-aggregate-put-option-3
+    put-option-requires-3
+    same-length
+    returns)

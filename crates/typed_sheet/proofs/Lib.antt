@@ -1,0 +1,5 @@
+pub mod Sections
+pub mod Tallies
+pub mod Whole
+pub mod Inside
+pub mod Example

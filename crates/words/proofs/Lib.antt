@@ -1,0 +1,5 @@
+pub mod Sizes
+pub mod Follow
+pub mod Keywords
+pub mod Values
+pub mod Ratio
