@@ -21,9 +21,14 @@ use Rattle.records.specs.declared.Row.{Row}
 use Rattle.typed_line.specs.declared.Line.{Line}
 use Rattle.typed_line.specs.Keywords.{chart, weights, play, ignore, fast, closest, nearest, n320, n300, n200, n100, n50, misses, acc, passed, holds, accbits, best, worst, classic, kindOf, methodOf, optionOf}
 use Rattle.typed_line.specs.Line.{fresh, opens, fieldOf, names, valueFor, slot, after, fills, judged}
-use Rattle.sheet_lines.specs.Lines.{methodWord, flagged, numbered, hexText, accuracyWords, flagWords, highWords, lowWords, reachedWords, optionWords}
+use Rattle.percent.specs.declared.Percentage.{Percentage}
+use Rattle.percent.specs.declared.Percentage.the-variants.{Has, Missing}
+use Rattle.percent.specs.Percent.{shortest}
+use Rattle.percent.proofs.Found.{Reads}
+use Rattle.percent.proofs.Fewest.{shortest-reads}
+use Rattle.sheet_lines.specs.Lines.{methodWord, flagged, numbered, hexText, percentText, wordsBy, accuracyWords, flagWords, highWords, lowWords, reachedWords, optionWords}
 use Rattle.round_trip.proofs.Words.{word, allWords, words-append, both}
-use Rattle.round_trip.proofs.Values.{decimal-word, decimal-back, hex-word, hex-back}
+use Rattle.round_trip.proofs.Values.{decimal-word, decimal-back, hex-word, hex-back, percent-word, percent-back}
 use Rattle.round_trip.proofs.Free.{unplaced, hears, hearsAll, hears-append}
 
 -- a line of kind k without a fault, whatever its words' places
@@ -170,7 +175,15 @@ module _ (g v x : List ℕ) (o : ℕ) (e : optionOf x ≡ o) where
   flagged-heard false f h k j t z y = none (line 3 2 g v) ∙ same g v f z y
   flagged-heard true f h k j t z y = next (line 3 2 g v) (line 3 2 (set g f 1) (set v f 1)) x [] (flag-named g v x o f e h k j t z) ∙ none (line 3 2 (set g f 1) (set v f 1))
 
--- the accuracy, by its bits
+-- the accuracy, by its percentage or by its bits
+percent-named : optionOf acc ≡ 6
+unfolding optionOf among says accbits n320 n300 n200 n100 n50 misses acc passed holds best worst classic
+percent-named = refl
+
+percent-read : (g v : List ℕ) (n k bits : ℕ) → Reads bits n k → hears (line 3 9 g v) (percentText n k) ≡ line 3 2 (set g 6 1) (set v 6 bits)
+unfolding hears judged valueFor fills slot after
+percent-read g v n k bits r = rw (percent-back r)
+
 bits-named : optionOf accbits ≡ 13
 unfolding optionOf among says accbits n320 n300 n200 n100 n50 misses acc passed holds best worst classic
 bits-named = refl
@@ -179,14 +192,23 @@ bits-read : (g v : List ℕ) (n : ℕ) → n < 18446744073709551616 → hears (l
 unfolding hears judged valueFor fills slot after
 bits-read g v n h = rw (hex-back n h)
 
-accuracy-heard : (g v : List ℕ) (b : Bool) (n : ℕ) → getD g 6 0 ≡ 0 → getD v 6 0 ≡ 0 → n < 18446744073709551616
-    → hearsAll (line 3 2 g v) (accuracyWords b n) ≡ line 3 2 (set g 6 (one b)) (set v 6 (val b n))
-unfolding accuracyWords fieldOf
-accuracy-heard g v false n z y h = none (line 3 2 g v) ∙ same g v 6 z y
-accuracy-heard g v true n z y h =
+words-heard : (g v : List ℕ) (p : Percentage) (n : ℕ) → shortest n ≡ p → getD g 6 0 ≡ 0 → n < 18446744073709551616
+    → hearsAll (line 3 2 g v) (wordsBy p n) ≡ line 3 2 (set g 6 1) (set v 6 n)
+unfolding wordsBy fieldOf
+words-heard g v (Has m k) n e z h =
+    next (line 3 2 g v) (line 3 9 g v) acc (percentText m k ∷ []) (named g v acc 6 percent-named refl refl z)
+    ∙ next (line 3 9 g v) (line 3 2 (set g 6 1) (set v 6 n)) (percentText m k) [] (percent-read g v m k n (shortest-reads n m k e))
+    ∙ none (line 3 2 (set g 6 1) (set v 6 n))
+words-heard g v Missing n e z h =
     next (line 3 2 g v) (line 3 16 g v) accbits (hexText n ∷ []) (named g v accbits 13 bits-named refl refl z)
     ∙ next (line 3 16 g v) (line 3 2 (set g 6 1) (set v 6 n)) (hexText n) [] (bits-read g v n h)
     ∙ none (line 3 2 (set g 6 1) (set v 6 n))
+
+accuracy-heard : (g v : List ℕ) (b : Bool) (n : ℕ) → getD g 6 0 ≡ 0 → getD v 6 0 ≡ 0 → n < 18446744073709551616
+    → hearsAll (line 3 2 g v) (accuracyWords b n) ≡ line 3 2 (set g 6 (one b)) (set v 6 (val b n))
+unfolding accuracyWords
+accuracy-heard g v false n z y h = none (line 3 2 g v) ∙ same g v 6 z y
+accuracy-heard g v true n z y h = words-heard g v (shortest n) n refl z h
 
 -- two groups of options
 then-heard : (l m n : Line) (a b : List (List ℕ)) → hearsAll l a ≡ m → hearsAll m b ≡ n → hearsAll l (a ++ b) ≡ n
@@ -288,10 +310,15 @@ unfolding flagged
 flagged-words false x h = refl
 flagged-words true x h = rw h
 
+words-words : (p : Percentage) (n : ℕ) → allWords (wordsBy p n) ≡ true
+unfolding wordsBy acc accbits
+words-words (Has m k) n = rw (percent-word m k)
+words-words Missing n = rw (hex-word n)
+
 accuracy-words : (b : Bool) (n : ℕ) → allWords (accuracyWords b n) ≡ true
-unfolding accuracyWords accbits
+unfolding accuracyWords
 accuracy-words false n = refl
-accuracy-words true n = rw (hex-word n)
+accuracy-words true n = words-words (shortest n) n
 
 flag-words : (r : Row) → allWords (flagWords r) ≡ true
 unfolding flagWords worst classic

@@ -5,3 +5,4 @@ pub mod Apart
 pub mod Whole
 pub mod WholeSum
 pub mod Quotient
+pub mod Near

@@ -48,7 +48,7 @@ at-half n d t s r D e l h q = go (t % 2) refl
         record { near = omega (arith, twice t d, one-more t d); even = λ (y : 2 * (n - (t + 1) * d + ((t + 1) * d - n)) ≡ d). omega arith }
     go (suc (suc k)) z = absurd (omega arith)
 
-closest-nearest : (n d : ℕ) → 0 < d → Nearest n d (closest n d)
+pub closest-nearest : (n d : ℕ) → 0 < d → Nearest n d (closest n d)
 closest-nearest n d D = go (compare (n * 2) ((2 * (n / d) + 1) * d)) (cmp (n * 2) ((2 * (n / d) + 1) * d))
   where
     go : (o : Ordering) → Cmp o (n * 2) ((2 * (n / d) + 1) * d) → Nearest n d (closest n d)

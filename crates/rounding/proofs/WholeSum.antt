@@ -10,12 +10,14 @@ use lib.Dec.{T, ltb, ltb→lt, lit<}
 use lib.Pow.{pow-add, pow-pos, pow-mono, shl-lt, shl-shr}
 use borrow.Author.Tests.{lt-ltb}
 use lib.Ieee.{Float, nan, inf, fin, Format, binary64, prec, emax, low, up, down, size, nearest, units, round, sum, add, ofBits, toBits, isNan, le, lt}
+use lib.Ieee.Bits.{is-true}
 use lib.Ieee.Digits.{size-lt, size-le}
 use lib.Ieee.Fits.{core, round-is, down-pos, nearest-le}
 use lib.Ieee.Exact.{HasValue, units-val}
 use lib.Ieee.Nearest.{closest, closest-same}
 use Rattle.rounding.specs.Round.{roundEven, zero64}
 use Rattle.rounding.proofs.Floats.{minus-zero}
+use Rattle.rounding.proofs.Less.{lt-trans}
 
 -- ---- `round` where the format's values are the whole numbers
 size-at : (n j : ℕ) → 2 ^ j ≤ n → n < 2 ^ suc j → size n ≡ suc j
@@ -99,11 +101,24 @@ closest-above w b d D h =
 closest-le : (b d w : ℕ) → 0 < d → b < w * d → closest b d ≤ w
 closest-le b d w D h = le-trans (nearest-le (b / d) (compare (b % d * 2) d)) (div-lt-iff-lt-mul D .1 h)
 
--- ---- the sum of 2 ^ 52 and a fraction below 2 ^ 31
-sum-below : (b d : ℕ) → b < 2 ^ 31 * d → b + 2 ^ 52 * d < 2 ^ 53 * d
+-- below 2 ^ k a number rounds to at most 2 ^ k
+pub rounded-le : (k : ℕ) (x : Float) → T (lt x (fin false 1 (pos k))) → roundEven x ≤ 2 ^ k
+unfolding roundEven
+rounded-le k nan h = absurd (unfold lt in h)
+rounded-le k (inf true) h = zero-le
+rounded-le k (inf false) h = absurd (unfold lt in h)
+rounded-le k (fin true m e) h = zero-le
+rounded-le k (fin false m e) h =
+    let n = m * up e in
+    let d = down e in
+    let w : n * 1 < 1 * 2 ^ k * d = unfold lt in ltb→lt (n * 1) (1 * 2 ^ k * d) h in
+    closest-le n d (2 ^ k) (down-pos e) (lt-of-le-of-lt (le-of-eq (sym (mul-one n))) (lt-of-lt-of-le w (le-of-eq (ap (λ (x : ℕ). x * d) (one-mul (2 ^ k))))))
+
+-- ---- the sum of 2 ^ 52 and a fraction below 2 ^ 51
+sum-below : (b d : ℕ) → b < 2 ^ 51 * d → b + 2 ^ 52 * d < 2 ^ 53 * d
 sum-below b d h = omega arith
 
-sum-at : (b d : ℕ) → 0 < d → b < 2 ^ 31 * d → HasValue (round binary64 false (b + 2 ^ 52 * d) d) false (2 ^ 52 + closest b d) 1
+sum-at : (b d : ℕ) → 0 < d → b < 2 ^ 51 * d → HasValue (round binary64 false (b + 2 ^ 52 * d) d) false (2 ^ 52 + closest b d) 1
 sum-at b d D h =
     let a = b + 2 ^ 52 * d in
     let c : closest a d ≡ 2 ^ 52 + closest b d = closest-above (2 ^ 52) b d D refl in
@@ -112,7 +127,7 @@ sum-at b d D h =
     (in-binade binary64 false 52 a d refl D (le-add-left (2 ^ 52 * d) b) (sum-below b d h) (lt-of-le-of-lt t (lit< tt)))
 
 abbrev Value : Float → ℕ → Type 0
-Value x r = HasValue (add binary64 x (fin false 1 (pos 52))) false (2 ^ 52 + r) 1 × (r ≤ 2 ^ 31)
+Value x r = HasValue (add binary64 x (fin false 1 (pos 52))) false (2 ^ 52 + r) 1
 
 plain : (n d : ℕ) → round binary64 false (n * 1 + 1 * 2 ^ 52 * d) (d * 1) ≡ round binary64 false (n + 2 ^ 52 * d) d
 plain n d =
@@ -126,7 +141,7 @@ minus-sum a b c z B =
     ap (λ (y : Bool). cond y (round binary64 false (b - a) c) (round binary64 (ltb b a) (a - b) c)) (lt-ltb a b (omega arith))
     ∙ ap (λ (x : ℕ). round binary64 false x c) (omega arith)
 
-sum-value : (x : Float) → T (le zero64 x) → T (lt x (fin false 1 (pos 31))) → Value x (roundEven x)
+sum-value : (x : Float) → T (le zero64 x) → T (lt x (fin false 1 (pos 51))) → Value x (roundEven x)
 unfolding add sum roundEven
 sum-value nan h k = absurd (unfold le in h)
 sum-value (inf true) h k = absurd (unfold le in h)
@@ -134,29 +149,36 @@ sum-value (inf false) h k = absurd (unfold lt in k)
 sum-value (fin false m e) h k =
     let n = m * up e in
     let d = down e in
-    let w : n < 2 ^ 31 * d = lt-of-le-of-lt (le-of-eq (sym (mul-one n))) (unfold lt in ltb→lt (n * 1) (2 ^ 31 * d) k) in
-    (subst (λ (y : Float). HasValue y false (2 ^ 52 + closest n d) 1) (sym (plain n d)) (sum-at n d (down-pos e) w), closest-le n d (2 ^ 31) (down-pos e) w)
+    let w : n < 2 ^ 51 * d = lt-of-le-of-lt (le-of-eq (sym (mul-one n))) (unfold lt in ltb→lt (n * 1) (2 ^ 51 * d) k) in
+    subst (λ (y : Float). HasValue y false (2 ^ 52 + closest n d) 1) (sym (plain n d)) (sum-at n d (down-pos e) w)
 sum-value (fin true m e) h k =
     let d = down e in
     let a = minus-sum (m * up e * 1) (1 * 2 ^ 52 * d) (d * 1) (minus-zero m e h) (mul-pos (lit< tt) (down-pos e)) ∙ plain 0 d in
     let z : closest 0 d ≡ 0 = closest-same 0 d 0 1 (down-pos e) (lit< tt) (sym (zero-mul d)) in
     let v = sum-at 0 d (down-pos e) (mul-pos (lit< tt) (down-pos e)) in
-    (subst (λ (y : Float). HasValue y false (2 ^ 52 + 0) 1) (sym a) (subst (λ (r : ℕ). HasValue (round binary64 false (0 + 2 ^ 52 * d) d) false (2 ^ 52 + r) 1) z v), zero-le)
+    subst (λ (y : Float). HasValue y false (2 ^ 52 + 0) 1) (sym a) (subst (λ (r : ℕ). HasValue (round binary64 false (0 + 2 ^ 52 * d) d) false (2 ^ 52 + r) 1) z v)
 
--- what `round_ties_even` takes off the bits of its sum
+-- what `round_whole` takes off the bits of its sum
 two-52 : ofBits binary64 0x4330_0000_0000_0000 ≡ fin false 1 (pos 52)
 unfolding ofBits
 two-52 = refl
 
 abbrev pub Bits : Float → ℕ → Type 0
-Bits y r = T (not (isNan y)) × (toBits binary64 y ≡ 0x4330_0000_0000_0000 + r) × (r ≤ 2 ^ 31)
+Bits y r = T (not (isNan y)) × (toBits binary64 y ≡ 0x4330_0000_0000_0000 + r)
 
-in-52 : (r : ℕ) → r ≤ 2 ^ 31 → (2 ^ 52 ≤ 2 ^ 52 + r) × (2 ^ 52 + r < 2 ^ 53)
+in-52 : (r : ℕ) → r ≤ 2 ^ 51 → (2 ^ 52 ≤ 2 ^ 52 + r) × (2 ^ 52 + r < 2 ^ 53)
 in-52 r h = (omega arith, omega arith)
 
-pub whole-sum : (x : Float) → T (le zero64 x) → T (lt x (fin false 1 (pos 31))) → Bits (add binary64 x (ofBits binary64 0x4330_0000_0000_0000)) (roundEven x)
+pub whole-sum : (x : Float) → T (le zero64 x) → T (lt x (fin false 1 (pos 51))) → Bits (add binary64 x (ofBits binary64 0x4330_0000_0000_0000)) (roundEven x)
 whole-sum x h k =
     let v = sum-value x h k in
-    let i = in-52 (roundEven x) (v .1) in
-    let b = bits-in-binade binary64 52 (add binary64 x (fin false 1 (pos 52))) (2 ^ 52 + roundEven x) refl (i .0) (i .1) (v .0) in
-    subst (λ (y : Float). Bits (add binary64 x y) (roundEven x)) (sym two-52) (b .0, b .1 ∙ omega arith, v .1)
+    let i = in-52 (roundEven x) (rounded-le 51 x k) in
+    let b = bits-in-binade binary64 52 (add binary64 x (fin false 1 (pos 52))) (2 ^ 52 + roundEven x) refl (i .0) (i .1) v in
+    subst (λ (y : Float). Bits (add binary64 x y) (roundEven x)) (sym two-52) (b .0, b .1 ∙ omega arith)
+
+-- what is below 2 ^ 31 is below 2 ^ 51
+pub below-51 : (x : Float) → T (lt x (fin false 1 (pos 31))) → T (lt x (fin false 1 (pos 51)))
+below-51 x h = subst T (sym (lt-trans x (fin false 1 (pos 31)) (fin false 1 (pos 51)) (is-true (lt x (fin false 1 (pos 31))) h) less)) tt
+  where
+    less : lt (fin false 1 (pos 31)) (fin false 1 (pos 51)) ≡ true
+    less = unfold lt in refl

@@ -12,14 +12,22 @@ ghost use Rattle.rounding.specs.Round.{roundEven, product, zero64, one64
 ghost use Rattle.rounding.specs.Distance.{ratio, distance};
 ghost use Rattle.rounding.specs.Quotient.{mostDividend, mostDivisor, roundedUp};
 
-// The whole number nearest to x, a half to the even one, for x from -0.0 up to 2^31. From 2^52 to 2^53 the f64s are the whole
+// The whole number nearest to x, a half to the even one, for x from -0.0 up to 2^51. From 2^52 to 2^53 the f64s are the whole
 // numbers: the sum's own rounding, to the nearest and a half to even, is the one asked for, and its bits count on from those of 2^52.
+pub fn round_whole(x: f64) -> u64
+    requires { ⌜ T (Ieee.le zero64 x) ⌝ ∗ ⌜ T (Ieee.lt x (fin false 1 (pos 51))) ⌝ }
+    ensures { λ r. ⌜ r ≡ roundEven x ⌝ }
+{
+    let sum = x + 4503599627370496.0;
+    f64::to_bits(sum) - 0x4330_0000_0000_0000
+}
+
+// The same of a number below 2^31.
 pub fn round_ties_even(x: f64) -> u32
     requires { ⌜ T (Ieee.le zero64 x) ⌝ ∗ ⌜ T (Ieee.lt x (fin false 1 (pos 31))) ⌝ }
     ensures { λ r. ⌜ r ≡ roundEven x ⌝ }
 {
-    let sum = x + 4503599627370496.0;
-    (f64::to_bits(sum) - 0x4330_0000_0000_0000) as u32
+    round_whole(x) as u32
 }
 
 // acc times n, one f64 product, to the nearest whole number, a half to even; at most n.

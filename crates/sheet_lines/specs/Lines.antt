@@ -1,16 +1,20 @@
 -- The page 'A typed sheet' of docs/RULES.md, 'The way back': "`chart OBJECTS HOLDS` for each chart, `weights W320 W300 W200 W100 W50` if the
 -- sheet has own weights, `play CHART METHOD` with its options for each query; each line ended by LF, single spaces, small letters, decimals
 -- without zeros in front. Options in this order, each only if the row says so: `worst` (priority 1), `classic` (1), `n320 N` .. `n50 N`,
--- `misses N`, `passed N`, `holds N` (byte 6 at 1), then the accuracy if it is given".
+-- `misses N`, `passed N`, `holds N` (byte 6 at 1), then the accuracy if it is given: as `acc P` if a percentage has its bits, the one with the
+-- fewest digits behind the point, else as `accbits H`".
 use mathlib.Core.List.{List, [], _∷_, _++_}
 use mathlib.Core.Bool.{Bool, cond}
-use Prim.Native.Nat.{ℕ, zero, suc, _+_, _/_, _%_}
+use Prim.Native.Nat.{ℕ, zero, suc, _+_, _/_, _%_, _^_}
 use lib.Dec.{eqb, ltb}
 use Rattle.text.specs.Text.{decimalText}
 use Rattle.inspect.specs.Presence.{has}
 use Rattle.inspect.specs.declared.Chart.{Chart}
 use Rattle.score_state.specs.declared.Weights.{Weights}
 use Rattle.records.specs.declared.Row.{Row}
+use Rattle.percent.specs.declared.Percentage.{Percentage}
+use Rattle.percent.specs.declared.Percentage.the-variants.{Has, Missing}
+use Rattle.percent.specs.Percent.{shortest}
 use Rattle.typed_line.specs.Keywords as Key
 
 -- words, each behind a space (32)
@@ -43,23 +47,40 @@ flagged given name = cond given (name ∷ []) []
 unfoldable pub numbered : Bool → List ℕ → ℕ → List (List ℕ)
 numbered given name n = cond given (name ∷ decimalText n ∷ []) []
 
--- a hex digit
+-- a digit, of hex numbers too
 abbrev pub hexLetter : ℕ → ℕ
 hexLetter d = cond (ltb d 10) (48 + d) (87 + d)
 
--- the last k hex digits of n, in front of those that follow
-unfoldable pub hexBefore : ℕ → ℕ → List ℕ → List ℕ
-hexBefore zero n w = w
-hexBefore (suc k) n w = hexBefore k (n / 16) (hexLetter (n % 16) ∷ w)
+-- the last k digits of n to a base, the highest first, in front of those that follow
+unfoldable pub lastDigits : ℕ → ℕ → ℕ → List ℕ → List ℕ
+lastDigits base zero n w = w
+lastDigits base (suc k) n w = lastDigits base k (n / base) (hexLetter (n % base) ∷ w)
 
--- sixteen of them, the highest first
+-- sixteen hex digits
 unfoldable pub hexText : ℕ → List ℕ
-unfolding hexBefore
-hexText n = hexBefore 16 n []
+unfolding lastDigits
+hexText n = lastDigits 16 16 n []
+
+-- the point (46) and the k digits behind it, if there are any
+unfoldable pub behindText : ℕ → ℕ → List ℕ
+unfolding lastDigits
+behindText zero n = []
+behindText (suc k) n = 46 ∷ lastDigits 10 (suc k) n []
+
+-- the percentage whose digits without the point are n, k of them behind it
+unfoldable pub percentText : ℕ → ℕ → List ℕ
+unfolding behindText
+percentText n k = decimalText (n / 10 ^ k) ++ behindText k n
+
+-- an accuracy by its percentage, or by its bits
+unfoldable pub wordsBy : Percentage → ℕ → List (List ℕ)
+unfolding hexText percentText
+wordsBy (Has n k) bits = Key.acc ∷ percentText n k ∷ []
+wordsBy Missing bits = Key.accbits ∷ hexText bits ∷ []
 
 unfoldable pub accuracyWords : Bool → ℕ → List (List ℕ)
-unfolding hexText
-accuracyWords given bits = cond given (Key.accbits ∷ hexText bits ∷ []) []
+unfolding wordsBy
+accuracyWords given bits = cond given (wordsBy (shortest bits) bits) []
 
 unfoldable pub flagWords : Row → List (List ℕ)
 unfolding flagged

@@ -66,3 +66,14 @@ pub fn make() -> bool {
 pub fn print() -> bool {
     print_from(STDIN_FILENO)
 }
+
+// The same for a C `main` to return: 0, or 1 where the text has a fault or a read or a write failed.
+#[no_mangle]
+pub extern "C" fn nuqsillay_type_sheet_main() -> i32 {
+    if make() { 0 } else { 1 }
+}
+
+#[no_mangle]
+pub extern "C" fn nuqsillay_typed_main() -> i32 {
+    if print() { 0 } else { 1 }
+}

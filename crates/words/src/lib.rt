@@ -177,7 +177,7 @@ pub fn number(w: &[u8]) -> Value
 }
 
 // The bits of p / q, one f64 division of two whole numbers that an f64 holds.
-fn ratio_bits(p: u64, q: u64) -> u64
+pub fn ratio_bits(p: u64, q: u64) -> u64
     requires { ⌜ p < 1000000000000000 ⌝ }
     requires { ⌜ (0 < q) × (q ≤ 100000000000000) ⌝ }
     ensures { λ r. ⌜ r ≡ toBits binary64 (round binary64 false p q) ⌝ }

@@ -8,9 +8,6 @@ use crate::{
     stride_table,
 };
 
-/// The library writes every accuracy by its bits, though many are a percentage.
-const BY_BITS: bool = true;
-
 /// Why a sheet has no text.
 #[derive(Clone, Copy, Debug, PartialEq, Eq)]
 pub enum Refused {
@@ -140,7 +137,7 @@ fn play(row: &[u8; ROW]) -> String {
 
     if row[5] & 64 != 0 {
         let bits = u64::from_le_bytes(row[36..44].try_into().unwrap());
-        line += &match percent::shortest(bits).filter(|_| !BY_BITS) {
+        line += &match percent::shortest(bits) {
             Some((digits, places)) => format!(" acc {}", percent::written(digits, places)),
             None => format!(" accbits {bits:016x}"),
         };

@@ -52,9 +52,9 @@ play 0 nearest accbits 3fef35a858793dd9
 /// The text of the page's example.
 const PAGE_BACK: &str = "chart 1204 312
 weights 61 60 40 20 10
-play 0 nearest n320 0 n300 0 accbits 3ff0000000000000
-play 0 closest worst classic misses 12 passed 800 holds 200 accbits 3fef35a858793dd9
-play 0 nearest accbits 3fef35a858793dd9
+play 0 nearest n320 0 n300 0 acc 100
+play 0 closest worst classic misses 12 passed 800 holds 200 acc 97.53
+play 0 nearest acc 97.53
 ";
 
 /// What the rows of the page's example hold: Nearest with n320, n300 and the accuracy, presence 1 + 2 + 64;
@@ -440,7 +440,7 @@ pub fn told_back() -> Vec<ToldBack> {
                 (44, &[9]),
             ]),
             text(
-                "play 258 fast worst classic n320 2 n300 3 n200 4 n100 5 n50 6 misses 7 passed 8 holds 9 accbits 3fe0000000000000\n",
+                "play 258 fast worst classic n320 2 n300 3 n200 4 n100 5 n50 6 misses 7 passed 8 holds 9 acc 50\n",
             ),
         ),
         (
@@ -448,18 +448,18 @@ pub fn told_back() -> Vec<ToldBack> {
             text("play 65535 closest classic holds 0\n"),
         ),
         // Accuracies.
-        (nearest(&[0]), text("play 0 nearest accbits 0000000000000000\n")),
-        (nearest(ONE), text("play 0 nearest accbits 3ff0000000000000\n")),
-        (nearest(EIGHTH), text("play 0 nearest accbits 3fc0000000000000\n")),
-        (nearest(OF_97), text("play 0 nearest accbits 3fef0a3d70a3d70a\n")),
-        (nearest(OF_97_53), text("play 0 nearest accbits 3fef35a858793dd9\n")),
-        (nearest(OF_0_1), text("play 0 nearest accbits 3f50624dd2f1a9fc\n")),
-        (nearest(OF_999), text("play 0 nearest accbits 4023fae147ae147b\n")),
-        (nearest(TWO), text("play 0 nearest accbits 4000000000000000\n")),
-        (nearest(DOWN_13), text("play 0 nearest accbits 3f20000000000000\n")),
+        (nearest(&[0]), text("play 0 nearest acc 0\n")),
+        (nearest(ONE), text("play 0 nearest acc 100\n")),
+        (nearest(EIGHTH), text("play 0 nearest acc 12.5\n")),
+        (nearest(OF_97), text("play 0 nearest acc 97\n")),
+        (nearest(OF_97_53), text("play 0 nearest acc 97.53\n")),
+        (nearest(OF_0_1), text("play 0 nearest acc 0.1\n")),
+        (nearest(OF_999), text("play 0 nearest acc 999\n")),
+        (nearest(TWO), text("play 0 nearest acc 200\n")),
+        (nearest(DOWN_13), text("play 0 nearest acc 0.01220703125\n")),
         (
             nearest(DOWN_14),
-            text("play 0 nearest accbits 3f10000000000000\n"),
+            text("play 0 nearest acc 0.006103515625\n"),
         ),
         // Of 13 digits.
         (

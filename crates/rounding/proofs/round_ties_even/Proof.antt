@@ -1,26 +1,17 @@
--- `rounding::round_ties_even` meets its contract: the bits of the sum are those of 2 ^ 52 and, above them, the rounded number. Assumes
--- nothing.
+-- `rounding::round_ties_even` meets its contract. Assumes nothing.
 use native.Mathlib.Omega.{arith}
-use lib.Ieee.{binary64, add, ofBits}
-use Rattle.rounding.specs.Round.{roundEven}
-use Rattle.rounding.proofs.WholeSum.{Bits, whole-sum}
+use Rattle.rounding.proofs.WholeSum.{rounded-le, below-51}
 use Rattle.rounding.proofs.round_ties_even.Statement.{statement}
 use Rattle.rounding.proofs.round_ties_even.Tie as tie
 
-bits : (c : tie.Start) → Bits (add binary64 (c .args .x) (ofBits binary64 0x4330_0000_0000_0000)) (roundEven (c .args .x))
-bits c = whole-sum (c .args .x) (c .pre .0) (c .pre .1)
-
-float-to-bits-result : tie.Need-float-to-bits-result
-float-to-bits-result c = bits c .0
-
-sub-result : tie.Need-sub-result
-sub-result c = omega (arith, bits c .1)
+round-whole-requires : tie.Need-round-whole-requires
+round-whole-requires c κs = (c .pre .0, below-51 (c .args .x) (c .pre .1))
 
 cast-result : tie.Need-cast-result
-cast-result c = omega (arith, bits c .1, bits c .2)
+cast-result c = omega (arith, c .round-whole .ensures, rounded-le 31 (c .before .args .x) (c .before .pre .1))
 
 returns : tie.Need-returns
-returns c = omega (arith, bits c .1)
+returns c = c .round-whole .ensures
 
 pub round-ties-even-spec : {M : Type 1} → statement M
-round-ties-even-spec = tie.close (tie.spec float-to-bits-result sub-result cast-result returns)
+round-ties-even-spec = tie.close (tie.spec round-whole-requires cast-result returns)
