@@ -12,9 +12,9 @@ use Rattle.little_endian.proofs.Put.{bytes4-back}
 use Rattle.score_state.specs.declared.HitResults.{HitResults}
 use Rattle.score_state.specs.Answer.{Answer, statusOf}
 use Rattle.points_left.specs.Left.{bitsOf}
-use Rattle.generate.specs.Generated.{generatedOf}
-use Rattle.generate.specs.declared.Generated.{Generated}
-use Rattle.generate.specs.declared.Generated.the-variants.{Counts, Refused}
+use Rattle.generated.specs.Generated.{generatedOf}
+use Rattle.generated.specs.declared.Generated.{Generated}
+use Rattle.generated.specs.declared.Generated.the-variants.{Counts, Refused}
 use Rattle.answers.specs.Answers.{fieldBytes, answerBytes, value, eightAt}
 
 pub put-counts

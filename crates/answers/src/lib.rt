@@ -4,9 +4,9 @@ ghost use mathlib.Core.List.{[], _∷_};
 ghost use Prim.Native.Nat.{_+_, _≤_};
 ghost use lib.ListN.{length};
 ghost use Rattle.lists.specs.Lists.{put};
-ghost use Rattle.generate.specs.Generated.{generatedOf};
+ghost use Rattle.generated.specs.Generated.{generatedOf};
 ghost use Rattle.answers.specs.Answers.{fieldBytes, answerBytes};
-use generate::Generated;
+use generated::Generated;
 use score_state::HitResults;
 
 // The nine fields of an answer, side by side, left by its bits.

@@ -1,45 +1,23 @@
 -- Document 01, Where a row or sheet stops: "A direct call, which takes method and priority as numbers, refuses by 7, 8, 10 to 14 with
 -- no counts." Document 02, L2, of the holds passed: "a direct call takes it as one more optional number"; L4: "A direct call keeps the
--- standard weights", where a sheet's rows may have own ones. An output without room for the values is refused by 5, before anything else,
--- and left unchanged.
+-- standard weights", where a sheet's rows may have own ones.
 use Prim.Native.Nat.{ℕ, _%_, _<_}
 use mathlib.Core.Bool.{Bool, true, false, cond}
-use mathlib.Core.List.{List, [], _∷_, _++_}
+use mathlib.Core.List.{List, [], _∷_}
 use lib.Dec.{ltb, eqb}
-use lib.ListN.{length, drop, getD}
+use lib.ListN.{getD}
 use lib.Ieee.{Float}
 use Rattle.score_state.specs.declared.HitResults.{HitResults}
-use Rattle.score_state.specs.Answer.{Answer, statusOf, valuesOf}
 use Rattle.score_state.specs.Points.{standard}
 use Rattle.weighting.specs.declared.Scoring.{Scoring}
 use Rattle.weighting.specs.declared.Scoring.the-variants.{Standard, Own}
 use Rattle.inspect.specs.Presence.{has}
+use Rattle.inspect.specs.Inspect.{holdsBy}
 use Rattle.inspect.specs.declared.Accuracy.{Accuracy}
 use Rattle.inspect.specs.declared.Accuracy.the-variants.{Given, Absent}
-use Rattle.inspect.specs.declared.Holds.{Holds}
-use Rattle.inspect.specs.declared.Holds.the-variants.{InFull, Passed}
 use Rattle.inspect.specs.declared.Query.{Query}
-use Rattle.generate.specs.declared.Generated.{Generated}
-use Rattle.generate.specs.declared.Generated.the-variants.{Counts, Refused}
-
-abbrev pub sixCounts : ℕ → ℕ → ℕ → ℕ → ℕ → ℕ → HitResults
-sixCounts n320 n300 n200 n100 n50 misses = record { n320 = n320; n300 = n300; n200 = n200; n100 = n100; n50 = n50; misses = misses }
-
--- a call's result and what its output holds at the end
-pub record Lent : Type 0 where
-  pub status : ℕ
-  pub out : List ℕ
-
-abbrev pub lent : ℕ → List ℕ → Lent
-lent status out = record { status = status; out = out }
-
-abbrev pub either : Bool → Lent → Lent → Lent
-either true a b = a
-either false a b = b
-
--- an answer of n values, in front of what the output held
-unfoldable pub handed : ℕ → Answer (List ℕ) → List ℕ → Lent
-handed n a out = either (ltb (length out) n) (lent 5 out) (lent (statusOf a) (valuesOf a ++ drop (length (valuesOf a)) out))
+use Rattle.generated.specs.declared.Generated.{Generated}
+use Rattle.generated.specs.declared.Generated.the-variants.{Counts, Refused}
 
 -- what `hand` asks of an answer: no refusal has the number 0 (`numbered` in generate_laws shows it of every query)
 abbrev pub Numbered : Generated → Type 0
@@ -50,10 +28,6 @@ Numbered (Refused n) = 0 < n
 abbrev pub accBy : Bool → Float → Accuracy
 accBy true acc = Given acc
 accBy false acc = Absent
-
--- the holds passed, if they are given: a number other than 0 says so
-abbrev pub holdsBy : ℕ → ℕ → Holds
-holdsBy given n = cond (eqb given 0) InFull (Passed n)
 
 -- ---- How a row hands over its sheet's weights: no argument more than the direct call has.
 

@@ -5,16 +5,16 @@ ghost use mathlib.Core.Bool.{cond};
 ghost use lib.Dec.{ltb};
 ghost use lib.ListN.{length, take};
 ghost use Rattle.score_state.specs.Answer.{answerIn};
+ghost use Rattle.score_state.specs.Lent.{sixCounts, lent, handed};
 ghost use Rattle.score_state.specs.Points.{standard, weightsOf};
 ghost use Rattle.inspect.specs.Presence.{has};
 ghost use Rattle.nearest_laws.specs.Nearest.{Weighting};
 ghost use Rattle.generate_laws.specs.Generate.{scoredAnswer, generateAnswer};
-ghost use Rattle.generate.specs.Generated.{generatedOf};
-ghost use Rattle.direct.specs.Direct.{Numbered, sixCounts, lent, handed, accBy, holdsBy, kindBy, numbersBy, classicIn, weightsIn, queryBy};
-use generate::Generated;
+ghost use Rattle.generated.specs.Generated.{generatedOf};
+ghost use Rattle.direct.specs.Direct.{Numbered, accBy, kindBy, numbersBy, classicIn, weightsIn, queryBy};
+use generated::Generated;
 use inspect::Accuracy;
 use inspect::Chart;
-use inspect::Holds;
 use inspect::Query;
 use score_state::Weights;
 use weighting::Scoring;
@@ -27,18 +27,6 @@ fn acc_of(presence: u8, acc: f64) -> Accuracy
         Accuracy::Given(acc)
     } else {
         Accuracy::Absent
-    }
-}
-
-// The holds passed where they are given: 0 says that they are not, as in a row and in C's bool. A bool here would be masked anew on
-// the stack, and C's call could not hand its arguments on as they stand.
-pub fn holds_of(given: u8, n: u32) -> Holds
-    ensures { λ r. ⌜ r ≡ holdsBy given n ⌝ }
-{
-    if given == 0 {
-        Holds::InFull
-    } else {
-        Holds::Passed(n)
     }
 }
 
@@ -132,7 +120,7 @@ pub fn scored(
     };
     let weights = weights_of(kind, own);
     let accuracy = acc_of(presence, acc);
-    let reached = holds_of(holds_given, holds_passed);
+    let reached = inspect::holds_of(holds_given, holds_passed);
     let q = Query {
         chart: Chart {
             n_objects: objects,
@@ -152,7 +140,7 @@ pub fn scored(
         holds: reached,
         acc: accuracy,
     };
-    hand(generate::scored_by(q, method, weights), out)
+    hand(methods::scored_by(q, method, weights), out)
 }
 
 // The same under the standard weights, which a direct call keeps.

@@ -10,7 +10,7 @@ use Rattle.score_state.specs.Answer.{Answer, unless}
 use Rattle.score_state.specs.Points.{standard}
 use Rattle.inspect.specs.Inspect.{HitResultPriority, BestCase, WorstCase, inspectOf, givens, shortened, totalHits, misses, remain, holdsOf}
 use Rattle.inspect.specs.Checks.{chartOver, countOver, stopOf}
-use Rattle.inspect.specs.Answers.{targetValues, targetAnswer}
+use Rattle.rounded_target.specs.Answers.{targetValues, targetAnswer}
 use Rattle.inspect.proofs.Checked.{shortened-le, chart-within}
 use Rattle.inspect.specs.declared.Query.{Query}
 use Rattle.ignore_acc.specs.IgnoreAcc.{bestCase, worstCase, ignoreAcc}

@@ -19,7 +19,6 @@ use Rattle.score_state.specs.Points.{perfectWeight}
 use Rattle.inspect.specs.Inspect.{Inspect, inspectOf, accOf, holdsOf, shortened, totalHits, cappedMisses, misses, remain}
 use Rattle.inspect.specs.Target.{target}
 use Rattle.score_state.specs.Answer.{refused, worked, unless}
-use Rattle.inspect.specs.Answers.{targetValues, targetAnswer}
 use Rattle.inspect.proofs.Total.{total-classic, total-holds}
 use Rattle.inspect.specs.declared.Accuracy.{Accuracy}
 use Rattle.inspect.specs.declared.Accuracy.the-variants.{Given, Absent}
@@ -148,26 +147,6 @@ pub misses-given
 unfolding misses cappedMisses
 misses-given i b n t r e eb et er =
     er ∙ ap (λ (x : ℕ). min n x) et ∙ ap (λ (g : Option ℕ). cappedMisses g (totalHits i)) (sym (e ∙ ap (λ (x : Bool). given x n) eb))
-
--- ---- `targetAnswer` from its parts
-pub target-refused : (q : Query) (n : ℕ) → n ≡ stopOf q → 0 < n → refused n ≡ targetAnswer q
-unfolding targetAnswer
-target-refused q n e h = rw (← e, ne-eqb n 0 (λ (z : n ≡ 0). omega arith))
-
-pub target-missing : (q : Query) (n : ℕ) → n ≡ stopOf q → n ≤ 0 → q .acc ≡ Absent → refused 13 ≡ targetAnswer q
-unfolding targetAnswer
-target-missing q n e h a = let z : n ≡ 0 = omega arith in rw (eq-eqb (stopOf q) 0 (sym e ∙ z), a)
-
-pub target-worked
-    : (q : Query) (n : ℕ) (acc : Float) (t m r w p : ℕ) → n ≡ stopOf q → n ≤ 0 → q .acc ≡ Given acc
-    → t ≡ totalHits (inspectOf q) → m ≡ misses (inspectOf q) → r ≡ remain (inspectOf q) → w ≡ perfectWeight (q .classic) → p ≡ target acc w t
-    → worked (t ∷ m ∷ r ∷ p ∷ []) ≡ targetAnswer q
-unfolding targetAnswer
-target-worked q n acc t m r w p e h a et em er ew ep =
-    let z : n ≡ 0 = omega arith in
-    let i = inspectOf q in
-    let v : worked (t ∷ m ∷ r ∷ p ∷ []) ≡ targetValues i (some acc) = rw (ep, ew, et, em, er) in
-    v ∙ ap (λ (o : Option Float). targetValues i o) (sym (ap accOf a)) ∙ sym (ap (λ (b : Bool). unless b (stopOf q) (targetValues i (i .acc))) (eq-eqb (stopOf q) 0 (sym e ∙ z)))
 
 -- the accuracy of a query that no check stops, where it is given, lies in 0 to 1
 pub acc-within : (q : Query) (acc : Float) → Domain q → q .acc ≡ Given acc → T (le zero64 acc) × T (le acc one64)

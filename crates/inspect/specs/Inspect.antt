@@ -7,6 +7,7 @@ use Prim.Native.Nat.{ℕ, zero, suc, _+_, _-_, min}
 use mathlib.Core.Bool.{Bool, cond}
 use mathlib.Core.List.{List, [], _∷_}
 use mathlib.Core.Option.{Option, none, some}
+use lib.Dec.{eqb}
 use lib.Ieee.{Float}
 use Rattle.inspect.specs.Presence.{has, given}
 use Rattle.inspect.specs.declared.Accuracy.{Accuracy}
@@ -91,3 +92,7 @@ misses i = cappedMisses (i .misses) (totalHits i)
 
 unfoldable pub remain : Inspect → ℕ
 remain i = totalHits i - misses i
+
+-- the holds passed, if they are given: a number other than 0 says so
+abbrev pub holdsBy : ℕ → ℕ → Holds
+holdsBy given n = cond (eqb given 0) InFull (Passed n)

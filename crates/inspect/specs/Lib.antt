@@ -2,4 +2,3 @@ pub mod Presence
 pub mod Inspect
 pub mod Target
 pub mod Checks
-pub mod Answers

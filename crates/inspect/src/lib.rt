@@ -9,10 +9,9 @@ ghost use Rattle.units.specs.Limits.{mostHits, mostWeight};
 ghost use Rattle.inspect.specs.Presence as Presence;
 ghost use Rattle.inspect.specs.Presence.{has, lacking, missingOf, unwrapOrZero};
 ghost use Rattle.inspect.specs.Inspect as Inspect;
-ghost use Rattle.inspect.specs.Inspect.{inspectOf, accOf, holdsOf};
+ghost use Rattle.inspect.specs.Inspect.{inspectOf, accOf, holdsOf, holdsBy};
 ghost use Rattle.inspect.specs.Target as Target;
 ghost use Rattle.inspect.specs.Checks.{chartOver, unknownCode, overCap, countOver, accOutside, stopOf, Domain};
-ghost use Rattle.inspect.specs.Answers.{answerOf, targetAnswer};
 use score_state::HitResults;
 use units::Hits;
 use units::Points;
@@ -69,6 +68,18 @@ pub const MISSES: u8 = 0b0010_0000;
 pub const ACC: u8 = 0b0100_0000;
 
 pub const PASSED: u8 = 0b1000_0000;
+
+// The holds passed where they are given: 0 says that they are not, as in a row and in C's bool. A bool here would be masked anew on
+// the stack, and C's call could not hand its arguments on as they stand.
+pub fn holds_of(given: u8, n: u32) -> Holds
+    ensures { λ r. ⌜ r ≡ holdsBy given n ⌝ }
+{
+    if given == 0 {
+        Holds::InFull
+    } else {
+        Holds::Passed(n)
+    }
+}
 
 // How many of the five counts are missing, as the generators tell it apart.
 pub enum Missing {
@@ -287,41 +298,4 @@ pub fn stop_of(q: Query) -> u32
         return 11;
     }
     0
-}
-
-// What is filed beside a split.
-pub struct RoundedTarget {
-    pub total_hits: Hits,
-    pub misses: Hits,
-    pub remain: Hits,
-    pub target: Points,
-}
-
-// The rounded target with the hits it is of, or the number of the check that stops the query.
-pub enum TargetAnswer {
-    Is(RoundedTarget),
-    Refused(u32),
-}
-
-// The rounded target of a query: refused by 7, 8, 10 and 11, and by 13 without an accuracy.
-pub fn rounded_target(q: Query) -> TargetAnswer
-    ensures { λ r. ⌜ answerOf r ≡ targetAnswer q ⌝ }
-{
-    let stop = stop_of(q);
-    if stop > 0 {
-        return TargetAnswer::Refused(stop);
-    }
-    let a = q.acc;
-    match a {
-        Accuracy::Given(acc) => {
-            let total = total_hits(q);
-            TargetAnswer::Is(RoundedTarget {
-                total_hits: total,
-                misses: misses(q),
-                remain: remain(q),
-                target: target_of(acc, score_state::perfect_weight(q.classic), total),
-            })
-        }
-        Accuracy::Absent => TargetAnswer::Refused(13),
-    }
 }

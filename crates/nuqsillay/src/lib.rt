@@ -1,28 +1,19 @@
-// The calls that C and Rust programs link: numbers and slices only. Their header is include/nuqsillay.h. holds_given is a bool there, one
-// byte of 0 or 1 (`direct::holds_of` says why it is none here).
+// The calls that C and Rust programs link: numbers and slices only, each over a call of its own crate that has the same contract. Their header
+// is include/nuqsillay.h. holds_given is a bool there, one byte of 0 or 1 (`inspect::holds_of` says why it is none here).
 ghost use mathlib.Core.Path.{_≡_};
-ghost use mathlib.Core.List.{_++_};
-ghost use Prim.Native.Nat.{_≤_};
-ghost use lib.ListN.{length, drop};
+ghost use lib.ListN.{length};
 ghost use Rattle.score_state.specs.Answer.{statusOf};
+ghost use Rattle.score_state.specs.Lent.{sixCounts, lent, handed};
 ghost use Rattle.score_state.specs.Accuracy.{accuracyAnswer};
-ghost use Rattle.inspect.specs.Answers.{targetAnswer};
+ghost use Rattle.accuracy_call.specs.Value.{valueOr};
+ghost use Rattle.rounded_target.specs.Answers.{targetAnswer, targetQuery};
 ghost use Rattle.generate_laws.specs.Generate.{generateAnswer};
-ghost use Rattle.direct.specs.Direct.{sixCounts, lent, handed, queryBy};
-ghost use Rattle.totals.specs.Totals.{sevenOf};
+ghost use Rattle.direct.specs.Direct.{queryBy};
+ghost use Rattle.sheet_call.specs.SheetLent.{sheetLent, sheetHanded};
 ghost use Rattle.stride_table.specs.StrideTable.{tableStatus, tableOut};
+ghost use Rattle.stride_call.specs.FiveWeights.{fiveWeights};
 ghost use Rattle.typed_call.specs.Told.{lentBy, sheetTold};
 ghost use Rattle.text_call.specs.TextTold.{textTold};
-ghost use Rattle.nuqsillay.specs.Exports.{valueOr, targetQuery, sheetLent, sheetHanded, fiveWeights};
-use inspect::Accuracy;
-use inspect::Chart;
-use inspect::Query;
-use inspect::TargetAnswer;
-use score_state::AccuracyAnswer;
-use score_state::HitResults;
-use score_state::Weights;
-use sheets::SheetAnswer;
-use totals::Totals;
 
 // `accuracy`: 0 with the accuracy behind value, or 10.
 #[no_mangle]
@@ -39,56 +30,7 @@ pub extern "C" fn nuqsillay_accuracy(
     ensures { λ r. ⌜ r ≡ statusOf (accuracyAnswer (sixCounts n320 n300 n200 n100 n50 misses) classic) ⌝ }
     ensures { λ _. ⌜ now (value .exit) ≡ valueOr (accuracyAnswer (sixCounts n320 n300 n200 n100 n50 misses) classic) (now (value .entry)) ⌝ }
 {
-    let counts = HitResults {
-        n320,
-        n300,
-        n200,
-        n100,
-        n50,
-        misses,
-    };
-    match score_state::accuracy(counts, classic) {
-        AccuracyAnswer::Is(x) => {
-            *value = x;
-            0
-        }
-        AccuracyAnswer::OverCap => 10,
-    }
-}
-
-// The query of `nuqsillay_target`: no count is given but misses, passed and the holds passed.
-fn target_query(
-    objects: u32,
-    holds: u32,
-    classic: bool,
-    presence: u8,
-    misses: u32,
-    passed: u32,
-    holds_given: u8,
-    holds_passed: u32,
-    acc: f64,
-) -> Query
-    ensures { λ r. ⌜ r ≡ targetQuery objects holds classic presence misses passed «holds_given» «holds_passed» acc ⌝ }
-{
-    Query {
-        chart: Chart {
-            n_objects: objects,
-            n_hold_notes: holds,
-        },
-        method: 0,
-        priority: 0,
-        classic,
-        presence: presence / 32 * 32,
-        n320: 0,
-        n300: 0,
-        n200: 0,
-        n100: 0,
-        n50: 0,
-        misses,
-        passed,
-        holds: direct::holds_of(holds_given, holds_passed),
-        acc: Accuracy::Given(acc),
-    }
+    accuracy_call::accuracy(n320, n300, n200, n100, n50, misses, classic, value)
 }
 
 // `rounded_target`: 0 with total hits, misses, remain and the rounded target in out, or the number that refuses.
@@ -107,10 +49,7 @@ pub extern "C" fn nuqsillay_target(
 ) -> u32
     ensures { λ r. ⌜ lent r (now (out .exit)) ≡ handed 4 (targetAnswer (targetQuery objects holds classic presence misses passed «holds_given» «holds_passed» acc)) (now (out .entry)) ⌝ }
 {
-    if out.len() < 4 {
-        return 5;
-    }
-    let q = target_query(
+    rounded_target::target_numbers(
         objects,
         holds,
         classic,
@@ -120,17 +59,8 @@ pub extern "C" fn nuqsillay_target(
         holds_given,
         holds_passed,
         acc,
-    );
-    match inspect::rounded_target(q) {
-        TargetAnswer::Is(t) => {
-            out[0] = t.total_hits.0;
-            out[1] = t.misses.0;
-            out[2] = t.remain.0;
-            out[3] = t.target.0;
-            0
-        }
-        TargetAnswer::Refused(n) => n,
-    }
+        out,
+    )
 }
 
 // The direct call: 0 with the five counts, misses, tried and the bits of left in out, or the number that refuses.
@@ -177,36 +107,13 @@ pub extern "C" fn nuqsillay_generate(
     )
 }
 
-// The seven numbers of a sheet to an output that has room for them.
-fn hand_totals(t: Totals, out: &mut [u64])
-    requires { ⌜ 7 ≤ length (now out) ⌝ }
-    ensures { λ _. ⌜ now (out .exit) ≡ sevenOf t ++ drop 7 (now (out .entry)) ⌝ }
-{
-    out[0] = t.rows;
-    out[1] = t.n320;
-    out[2] = t.n300;
-    out[3] = t.n200;
-    out[4] = t.n100;
-    out[5] = t.n50;
-    out[6] = t.misses;
-}
-
 // Works a sheet: 0 with an answer of 36 bytes for each query in out and their seven numbers in totals, or 1 to 5 or 18 with both
 // unchanged.
 #[no_mangle]
 pub extern "C" fn nuqsillay_work_sheet(sheet: &[u8], out: &mut [u8], totals: &mut [u64]) -> u32
     ensures { λ r. ⌜ sheetLent r (now (out .exit)) (now (totals .exit)) ≡ sheetHanded (now (sheet .entry)) (now (out .entry)) (now (totals .entry)) ⌝ }
 {
-    if totals.len() < 7 {
-        return 5;
-    }
-    match sheets::work_sheet(sheet, out) {
-        SheetAnswer::Worked(_, t) => {
-            hand_totals(t, totals);
-            0
-        }
-        SheetAnswer::Refused(n) => n,
-    }
+    sheet_call::work_sheet(sheet, out, totals)
 }
 
 // The stride table of two weightings, a and b: 0 with its 320 numbers in out; or 18 where either is none that a league may set, then 5
@@ -228,21 +135,19 @@ pub extern "C" fn nuqsillay_strides(
     ensures { λ r. ⌜ r ≡ tableStatus (fiveWeights a320 a300 a200 a100 a50) (fiveWeights b320 b300 b200 b100 b50) (length (now (out .entry))) ⌝ }
     ensures { λ _. ⌜ now (out .exit) ≡ tableOut (fiveWeights a320 a300 a200 a100 a50) (fiveWeights b320 b300 b200 b100 b50) (now (out .entry)) ⌝ }
 {
-    let first = Weights {
-        n320: a320,
-        n300: a300,
-        n200: a200,
-        n100: a100,
-        n50: a50,
-    };
-    let second = Weights {
-        n320: b320,
-        n300: b300,
-        n200: b200,
-        n100: b100,
-        n50: b50,
-    };
-    stride_table::fill_strides(first, second, out)
+    stride_call::strides(
+        a320,
+        a300,
+        a200,
+        a100,
+        a50,
+        b320,
+        b300,
+        b200,
+        b100,
+        b50,
+        out,
+    )
 }
 
 // The sheet of a text that is typed, at the front of out: 0 with its length in told; or the number of the text's first fault, with its line, where

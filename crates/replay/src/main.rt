@@ -5,17 +5,17 @@
 // and values, left by its bits.
 ghost use Prim.Native.Nat.{_+_, _*_, _≤_, _<_};
 ghost use lib.ListN.{length};
-use generate::Generated;
+use generated::Generated;
 use inspect::Accuracy;
 use inspect::Chart;
 use inspect::Holds;
 use inspect::Query;
-use inspect::TargetAnswer;
 use libc::STDIN_FILENO;
 use libc::STDOUT_FILENO;
 use little_endian::f64_of;
 use little_endian::u32_at;
 use little_endian::u64_at;
+use rounded_target::TargetAnswer;
 use score_state::AccuracyAnswer;
 use score_state::HitResults;
 
@@ -99,7 +99,7 @@ fn accuracy_agrees(s: &[u8], at: usize) -> bool
 fn target_agrees(s: &[u8], at: usize) -> bool
     requires { ⌜ at + 92 ≤ length (now s) ⌝ }
 {
-    match inspect::rounded_target(query_at(s, at, 0)) {
+    match rounded_target::rounded_target(query_at(s, at, 0)) {
         TargetAnswer::Is(t) => {
             expects(s, at, 0, 0)
                 && expects(s, at, 1, t.total_hits.0)

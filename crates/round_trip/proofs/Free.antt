@@ -14,7 +14,7 @@ use Rattle.typed_line.specs.declared.Line.{Line}
 use Rattle.typed_line.specs.Keywords.{kindOf, optionOf}
 use Rattle.typed_line.specs.Line.{fresh, noted, told, begun, awaits, stores, opens, fieldOf, names, valueFor, slot, after, fills, judged, takes, takesAll, closed, readOf, lineOf}
 use Rattle.typed_records.specs.Records.{valueBytes, presence, namedBytes, givenBytes, tailBytes, playBytes, recordBytes}
-use Rattle.sheet_lines.specs.Lines.{spaced}
+use Rattle.accuracy_text.specs.AccuracyText.{spaced}
 use Rattle.round_trip.proofs.Words.{texts, word, allWords, words-back, in-line, unended-same}
 
 -- a line without the places of its words

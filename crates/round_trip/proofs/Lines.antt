@@ -26,7 +26,8 @@ use Rattle.percent.specs.declared.Percentage.the-variants.{Has, Missing}
 use Rattle.percent.specs.Percent.{shortest}
 use Rattle.percent.proofs.Found.{Reads}
 use Rattle.percent.proofs.Fewest.{shortest-reads}
-use Rattle.sheet_lines.specs.Lines.{methodWord, flagged, numbered, hexText, percentText, wordsBy, accuracyWords, flagWords, highWords, lowWords, reachedWords, optionWords}
+use Rattle.accuracy_text.specs.AccuracyText.{hexText, percentText, wordsBy, accuracyWords}
+use Rattle.sheet_lines.specs.Lines.{methodWord, flagged, numbered, flagWords, highWords, lowWords, reachedWords, optionWords}
 use Rattle.round_trip.proofs.Words.{word, allWords, words-append, both}
 use Rattle.round_trip.proofs.Values.{decimal-word, decimal-back, hex-word, hex-back, percent-word, percent-back}
 use Rattle.round_trip.proofs.Free.{unplaced, hears, hearsAll, hears-append}

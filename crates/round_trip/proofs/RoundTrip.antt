@@ -25,7 +25,8 @@ use Rattle.typed_line.specs.Line.{lineOf}
 use Rattle.typed_sheet.specs.declared.Tally.{Tally}
 use Rattle.typed_sheet.specs.declared.Typed.the-variants.{Sheet}
 use Rattle.typed_sheet.specs.Typed.{records, tallyAll, none, tallyOf, sheetSize, sheetBytes, Outcome, outcomeOf, typedSheet}
-use Rattle.sheet_lines.specs.Lines.{spaced, lineText, chartText, weightsText, playText, methodWord, optionWords}
+use Rattle.accuracy_text.specs.AccuracyText.{spaced}
+use Rattle.sheet_lines.specs.Lines.{lineText, chartText, weightsText, playText, methodWord, optionWords}
 use Rattle.typed_text.specs.declared.Places.{Places}
 use Rattle.typed_text.specs.SheetText.{placesOf, Placed, lineAt, lineCount, textOf}
 use Rattle.typed_text.proofs.Inside.{Within, placed, charts-are, own-are, weights-at, rows-at, queries-are}

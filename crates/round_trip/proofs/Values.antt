@@ -15,8 +15,8 @@ use Rattle.words.specs.Values.{digits, numberOf, hundredth, behindPoint, before
 use Rattle.words.specs.declared.Value.{Value}
 use Rattle.words.specs.declared.Value.the-variants.{Is, Bad}
 use Rattle.percent.proofs.Found.{Reads}
-use Rattle.sheet_lines.specs.Lines.{hexLetter, lastDigits, hexText, behindText, percentText}
-use Rattle.sheet_lines.proofs.Pieces.{digits-length, before-small}
+use Rattle.accuracy_text.specs.AccuracyText.{hexLetter, lastDigits, hexText, behindText, percentText}
+use Rattle.accuracy_text.proofs.Pieces.{digits-length, before-small}
 use Rattle.round_trip.proofs.Words.{plain, allPlain, word, some-word, plain-at, plain-append}
 
 -- ---- decimal

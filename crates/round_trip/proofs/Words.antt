@@ -11,7 +11,7 @@ use lib.Seq.{take-at}
 use borrow.Author.Tests.{ne-eqb}
 use Rattle.words.specs.Lines.{Part, part, lineSize, linesFrom, unended}
 use Rattle.words.specs.Words.{blank, parting, wordSize, wordsFrom}
-use Rattle.sheet_lines.specs.Lines.{spaced}
+use Rattle.accuracy_text.specs.AccuracyText.{spaced}
 
 -- ---- tests that hold
 never : {A : Type 0} → false ≡ true → A

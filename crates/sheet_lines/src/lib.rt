@@ -1,28 +1,16 @@
 // The lines of a sheet's text, appended to a lent buffer: each call is told where its piece starts and answers where it ends.
-ghost use mathlib.Core.Path.{_≡_};
 ghost use mathlib.Core.List.{[], _∷_};
-ghost use Prim.Native.Nat.{_+_, _*_, _^_, _≤_, _<_};
+ghost use Prim.Native.Nat.{_+_, _≤_};
 ghost use lib.ListN.{length};
 ghost use Rattle.text.specs.Text.{decimalText, Appended};
-ghost use Rattle.percent.specs.declared.Percentage.the-variants.{Missing};
-ghost use Rattle.sheet_lines.specs.Lines.{spaced, chartText, weightsText, methodWord, flagged, numbered, hexLetter, lastDigits, percentText, wordsBy, accuracyWords, flagWords, highWords, lowWords, reachedWords, optionWords, playText};
+ghost use Rattle.accuracy_text.specs.AccuracyText.{spaced};
+ghost use Rattle.sheet_lines.specs.Lines.{chartText, weightsText, methodWord, flagged, numbered, flagWords, highWords, lowWords, reachedWords, optionWords, playText};
 use inspect::Chart;
-use percent::Percentage;
 use records::Row;
 use score_state::Weights;
 
 // The longest line has fewer bytes: `play`, eleven for CHART, eight for METHOD, all options, and an end.
 pub const ROOM: usize = 4 + 11 + 8 + (14 + 48 + 49 + 35 + 25) + 1;
-
-// A space and a word.
-fn put_word(text: &mut [u8], at: usize, word: &[u8]) -> usize
-    requires { ⌜ at + 1 + length (now word) ≤ length (now text) ⌝ }
-    ensures { λ r. ⌜ Appended (now (text .entry)) at (now (text .exit)) r (spaced (now (word .entry) ∷ [])) ⌝ }
-    ensures { λ r. ⌜ r ≡ at + 1 + length (now (word .entry)) ⌝ }
-{
-    let next = text::put_byte(text, at, b' ');
-    text::put_bytes(text, next, word)
-}
 
 // A space and a number.
 fn put_value(text: &mut [u8], at: usize, n: u32) -> usize
@@ -64,15 +52,15 @@ fn put_method(text: &mut [u8], at: usize, method: u8) -> usize
     ensures { λ r. ⌜ r ≤ at + 8 ⌝ }
 {
     if method == 0 {
-        return put_word(text, at, b"ignore");
+        return accuracy_text::put_word(text, at, b"ignore");
     }
     if method == 1 {
-        return put_word(text, at, b"fast");
+        return accuracy_text::put_word(text, at, b"fast");
     }
     if method == 2 {
-        return put_word(text, at, b"closest");
+        return accuracy_text::put_word(text, at, b"closest");
     }
-    put_word(text, at, b"nearest")
+    accuracy_text::put_word(text, at, b"nearest")
 }
 
 // An option without a value, where it is given.
@@ -81,7 +69,11 @@ fn put_flag(text: &mut [u8], at: usize, given: bool, name: &[u8]) -> usize
     ensures { λ r. ⌜ Appended (now (text .entry)) at (now (text .exit)) r (spaced (flagged given (now (name .entry)))) ⌝ }
     ensures { λ r. ⌜ r ≤ at + 1 + length (now (name .entry)) ⌝ }
 {
-    if given { put_word(text, at, name) } else { at }
+    if given {
+        accuracy_text::put_word(text, at, name)
+    } else {
+        at
+    }
 }
 
 // An option with a number, where it is given.
@@ -91,106 +83,10 @@ fn put_option(text: &mut [u8], at: usize, given: bool, name: &[u8], n: u32) -> u
     ensures { λ r. ⌜ r ≤ at + 12 + length (now (name .entry)) ⌝ }
 {
     if given {
-        let name_end = put_word(text, at, name);
+        let name_end = accuracy_text::put_word(text, at, name);
         put_value(text, name_end, n)
     } else {
         at
-    }
-}
-
-fn hex_letter(d: u64) -> u8
-    requires { ⌜ d < 16 ⌝ }
-    ensures { λ r. ⌜ r ≡ hexLetter d ⌝ }
-{
-    if d < 10 {
-        (48 + d) as u8
-    } else {
-        (87 + d) as u8
-    }
-}
-
-// Sixteen digits of n to a base, from the last to the first.
-fn digits_of(n: u64, base: u64) -> [u8; 16]
-    requires { ⌜ (0 < base) × (base ≤ 16) ⌝ }
-    ensures { λ r. ⌜ r ≡ lastDigits base 16 n [] ⌝ }
-{
-    let mut digits = [0u8; 16];
-    let mut left = n;
-    let mut k: usize = 16;
-    while k > 0 {
-        k -= 1;
-        digits[k] = hex_letter(left % base);
-        left = left / base;
-    }
-    digits
-}
-
-// The last decimal digits of n, as many as are asked for.
-fn put_last(text: &mut [u8], at: usize, n: u64, count: usize) -> usize
-    requires { ⌜ (count ≤ 16) × (at + count ≤ length (now text)) ⌝ }
-    ensures { λ r. ⌜ Appended (now (text .entry)) at (now (text .exit)) r (lastDigits 10 count n []) ⌝ }
-    ensures { λ r. ⌜ r ≡ at + count ⌝ }
-{
-    let digits = digits_of(n, 10);
-    let from = 16 - count;
-    text::put_bytes(text, at, &digits[from..])
-}
-
-fn ten_to(k: u32) -> u64
-    requires { ⌜ k ≤ 12 ⌝ }
-    ensures { λ r. ⌜ r ≡ 10 ^ k ⌝ }
-{
-    let mut power: u64 = 1;
-    let mut i: u32 = 0;
-    while i < k {
-        power = 10 * power;
-        i += 1;
-    }
-    power
-}
-
-// A space and a percentage: digits without the point, so many of them behind it.
-fn put_percent(text: &mut [u8], at: usize, digits: u64, places: u32) -> usize
-    requires { ⌜ at + 18 ≤ length (now text) ⌝ }
-    requires { ⌜ (places ≤ 12) × (digits < 1000 * 10 ^ places) ⌝ }
-    ensures { λ r. ⌜ Appended (now (text .entry)) at (now (text .exit)) r (spaced (percentText digits places ∷ [])) ⌝ }
-    ensures { λ r. ⌜ r ≤ at + 18 ⌝ }
-{
-    let before = digits / ten_to(places);
-    let space_end = text::put_byte(text, at, b' ');
-    let before_end = text::put_decimal(text, space_end, before as u32);
-    if places == 0 {
-        return before_end;
-    }
-    let point_end = text::put_byte(text, before_end, b'.');
-    put_last(text, point_end, digits, places as usize)
-}
-
-fn put_bits(text: &mut [u8], at: usize, bits: u64) -> usize
-    requires { ⌜ at + 25 ≤ length (now text) ⌝ }
-    ensures { λ r. ⌜ Appended (now (text .entry)) at (now (text .exit)) r (spaced (wordsBy Missing bits)) ⌝ }
-    ensures { λ r. ⌜ r ≤ at + 25 ⌝ }
-{
-    let name_end = put_word(text, at, b"accbits");
-    let digits = digits_of(bits, 16);
-    put_word(text, name_end, &digits)
-}
-
-// The accuracy, where it is given.
-fn put_accuracy(text: &mut [u8], at: usize, given: bool, bits: u64) -> usize
-    requires { ⌜ at + 25 ≤ length (now text) ⌝ }
-    ensures { λ r. ⌜ Appended (now (text .entry)) at (now (text .exit)) r (spaced (accuracyWords given bits)) ⌝ }
-    ensures { λ r. ⌜ r ≤ at + 25 ⌝ }
-{
-    if !given {
-        return at;
-    }
-    match percent::percentage_of(bits) {
-        Percentage::Has(digits, places) => {
-            let name_end = put_word(text, at, b"acc");
-            put_percent(text, name_end, digits, places)
-        }
-        Percentage::Missing => put_bits(text, at, bits),
     }
 }
 
@@ -290,7 +186,7 @@ fn put_options(text: &mut [u8], at: usize, row: Row) -> usize
     let low_end = put_low(text, high_end, row);
     let reached_end = put_reached(text, low_end, row);
     let given = inspect::is_given(row.presence, inspect::ACC);
-    put_accuracy(text, reached_end, given, row.acc)
+    accuracy_text::put_accuracy(text, reached_end, given, row.acc)
 }
 
 pub fn put_play(text: &mut [u8], at: usize, row: Row) -> usize

@@ -22,7 +22,8 @@ use Rattle.lists.proofs.Joined.{same-pieces}
 use Rattle.sheets_laws.specs.Sheets.{sheetStop, queryCount, answerAt, sheetOf}
 use Rattle.sheets_laws.proofs.Laws.{refused-answer, accepted-answer, row-status, row-value}
 use Rattle.sheets_laws.proofs.Totals.{totals-answers}
-use Rattle.table.specs.Table.{headerText, fieldText, fieldsText, leftText, rowText, tableText, answerText, room, printedOf}
+use Rattle.row_text.specs.RowText.{fieldText, fieldsText, leftText, rowText}
+use Rattle.table.specs.Table.{headerText, tableText, answerText, room, printedOf}
 
 -- an integer as text
 abbrev pub integerText : ℤ → List ℕ

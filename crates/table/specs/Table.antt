@@ -2,35 +2,19 @@
 -- only `refused N`." And document 02, L1: "The header and each printed row end with left, a minus sign before a negative one."; L10: "After
 -- the rows, `sheet` prints `total`", and "A refused sheet has no such line." The bytes that it prints, from the bytes of the sheet.
 use mathlib.Core.List.{List, [], _∷_, _++_}
-use Prim.Native.Nat.{ℕ, _+_, _*_}
+use Prim.Native.Nat.{ℕ}
 use lib.ListN.{replicate}
 use Rattle.lists.specs.Lists.{joined}
-use Rattle.little_endian.specs.Bytes.{u32At}
 use Rattle.score_state.specs.Answer.{Answer, worked, refused}
 use Rattle.total_text.specs.TotalText.{totalText}
-use Rattle.text.specs.Text.{decimalText, signedText, refusedText}
+use Rattle.text.specs.Text.{refusedText}
+use Rattle.row_text.specs.RowText.{rowText}
 use Rattle.sheets_laws.specs.Sheets.{SheetNumbers, WorkedSheet, sheetOf}
 
 -- "query status n320 n300 n200 n100 n50 misses tried left", a line of 55 bytes
 unfoldable pub headerText : List ℕ
 headerText =
     113 ∷ 117 ∷ 101 ∷ 114 ∷ 121 ∷ 32 ∷ 115 ∷ 116 ∷ 97 ∷ 116 ∷ 117 ∷ 115 ∷ 32 ∷ 110 ∷ 51 ∷ 50 ∷ 48 ∷ 32 ∷ 110 ∷ 51 ∷ 48 ∷ 48 ∷ 32 ∷ 110 ∷ 50 ∷ 48 ∷ 48 ∷ 32 ∷ 110 ∷ 49 ∷ 48 ∷ 48 ∷ 32 ∷ 110 ∷ 53 ∷ 48 ∷ 32 ∷ 109 ∷ 105 ∷ 115 ∷ 115 ∷ 101 ∷ 115 ∷ 32 ∷ 116 ∷ 114 ∷ 105 ∷ 101 ∷ 100 ∷ 32 ∷ 108 ∷ 101 ∷ 102 ∷ 116 ∷ 10 ∷ []
-
--- a space and the k-th number of the answer that starts at `from`
-unfoldable pub fieldText : List ℕ → ℕ → ℕ → List ℕ
-fieldText out from k = 32 ∷ decimalText (u32At out (from + 4 * k))
-
--- its eight fields up to tried
-unfoldable pub fieldsText : List ℕ → ℕ → List ℕ
-fieldsText out from = joined (fieldText out from) 8
-
--- a space and its left, an i32
-unfoldable pub leftText : List ℕ → ℕ → List ℕ
-leftText out from = 32 ∷ signedText (u32At out (from + 32))
-
--- the line of query i: its index, and the fields of its answer, 36 bytes of the output
-unfoldable pub rowText : List ℕ → ℕ → List ℕ
-rowText out i = decimalText i ++ fieldsText out (36 * i) ++ leftText out (36 * i) ++ (10 ∷ [])
 
 -- the header, the lines of n queries, and the closing line of these totals
 unfoldable pub tableText : List ℕ → ℕ → List ℕ → List ℕ

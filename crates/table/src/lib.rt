@@ -1,68 +1,19 @@
 // What the program `sheet` prints, as bytes in a lent buffer. Each piece is told where it starts and answers where it ends.
 ghost use mathlib.Core.Path.{_≡_};
-ghost use Prim.Native.Nat.{_+_, _*_, _≤_, _<_};
+ghost use Prim.Native.Nat.{_+_, _*_, _≤_};
 ghost use lib.ListN.{length, take, drop};
 ghost use Rattle.io.specs.Counts.{Counts};
 ghost use Rattle.lists.specs.Lists.{joined};
 ghost use Rattle.text.specs.Text.{Appended};
+ghost use Rattle.row_text.specs.RowText.{rowText};
 ghost use Rattle.totals.specs.Totals.{sevenOf};
-ghost use Rattle.table.specs.Table.{fieldText, fieldsText, leftText, rowText, tableText, printedOf};
+ghost use Rattle.table.specs.Table.{tableText, printedOf};
 use sheets::SheetAnswer;
 use totals::Totals;
 
 // The longest table: a header, 1,024 lines of an index of four digits, eight fields of a space and ten digits, left with a sign more,
 // and an end; and the closing line of a word, seven times a space and 20 digits, and an end.
 pub const ROOM: usize = 55 + 1024 * (4 + 8 * 11 + 12 + 1) + (5 + 7 * 21 + 1);
-
-// A space and the k-th number of the answer that starts at `from`, up to tried.
-fn put_field(text: &mut [u8], at: usize, out: &[u8], from: usize, k: usize) -> usize
-    requires { ⌜ at + 11 ≤ length (now text) ⌝ }
-    requires { ⌜ (k < 8) × (from + 36 ≤ length (now out)) ⌝ }
-    ensures { λ r. ⌜ Appended (now (text .entry)) at (now (text .exit)) r (fieldText (now (out .entry)) from k) ⌝ }
-    ensures { λ r. ⌜ r ≤ at + 11 ⌝ }
-{
-    text::put_next(text, at, little_endian::u32_at(out, from + 4 * k))
-}
-
-// The eight fields up to tried of the answer that starts at `from`.
-fn put_fields(text: &mut [u8], at: usize, out: &[u8], from: usize) -> usize
-    requires { ⌜ at + 88 ≤ length (now text) ⌝ }
-    requires { ⌜ from + 36 ≤ length (now out) ⌝ }
-    ensures { λ r. ⌜ Appended (now (text .entry)) at (now (text .exit)) r (fieldsText (now (out .entry)) from) ⌝ }
-    ensures { λ r. ⌜ r ≤ at + 88 ⌝ }
-{
-    let mut end = at;
-    let mut k: usize = 0;
-    while k < 8 {
-        end = put_field(text, end, out, from, k);
-        k += 1;
-    }
-    end
-}
-
-// A space and left of the answer that starts at `from`.
-fn put_left(text: &mut [u8], at: usize, out: &[u8], from: usize) -> usize
-    requires { ⌜ at + 12 ≤ length (now text) ⌝ }
-    requires { ⌜ from + 36 ≤ length (now out) ⌝ }
-    ensures { λ r. ⌜ Appended (now (text .entry)) at (now (text .exit)) r (leftText (now (out .entry)) from) ⌝ }
-    ensures { λ r. ⌜ r ≤ at + 12 ⌝ }
-{
-    let next = text::put_byte(text, at, b' ');
-    text::put_signed(text, next, little_endian::u32_at(out, from + 32))
-}
-
-// The line of query i.
-fn put_row(text: &mut [u8], at: usize, out: &[u8], i: usize) -> usize
-    requires { ⌜ at + 105 ≤ length (now text) ⌝ }
-    requires { ⌜ (i < 1024) × (36 * i + 36 ≤ length (now out)) ⌝ }
-    ensures { λ r. ⌜ Appended (now (text .entry)) at (now (text .exit)) r (rowText (now (out .entry)) i) ⌝ }
-    ensures { λ r. ⌜ r ≤ at + 105 ⌝ }
-{
-    let index_end = text::put_decimal(text, at, i as u32);
-    let fields_end = put_fields(text, index_end, out, 36 * i);
-    let left_end = put_left(text, fields_end, out, 36 * i);
-    text::put_byte(text, left_end, b'\n')
-}
 
 // The lines of the first n queries.
 fn put_rows(text: &mut [u8], at: usize, out: &[u8], n: usize) -> usize
@@ -74,7 +25,7 @@ fn put_rows(text: &mut [u8], at: usize, out: &[u8], n: usize) -> usize
     let mut end = at;
     let mut i: usize = 0;
     while i < n {
-        end = put_row(text, end, out, i);
+        end = row_text::put_row(text, end, out, i);
         i += 1;
     }
     end

@@ -23,7 +23,8 @@ use Rattle.sheets_laws.specs.Sheets.{scoringFrom, chartsStop, scoringStop, quer
 use Rattle.totals.specs.Totals.{totalsOf}
 use Rattle.text.specs.Text.{decimalUpTo, decimalText, signedText}
 use Rattle.total_text.specs.TotalText.{totalWord, sumText, totalText}
-use Rattle.table.specs.Table.{headerText, fieldText, fieldsText, leftText, rowText, tableText, answerText, room, printedOf}
+use Rattle.row_text.specs.RowText.{fieldText, fieldsText, leftText, rowText}
+use Rattle.table.specs.Table.{headerText, tableText, answerText, room, printedOf}
 use Rattle.table_example.specs.Example.{sheet, shown}
 
 pub example : printedOf sheet ≡ shown

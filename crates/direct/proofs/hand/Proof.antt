@@ -6,9 +6,10 @@ use lib.ListN.{take, length-set}
 use mir.Syntax.{w32}
 use mir.ValLaws.{toZ-ofZ}
 use Rattle.points_left.specs.Left.{bitsOf}
-use Rattle.generate.specs.Generated.{generatedOf}
+use Rattle.generated.specs.Generated.{generatedOf}
 use Rattle.direct.specs.Direct.{Numbered}
-use Rattle.direct.proofs.Handed.{handed-refused, handed-worked, told-refused, told-worked}
+use Rattle.score_state.proofs.Lent.{handed-refused, handed-worked}
+use Rattle.direct.proofs.Handed.{told-refused, told-worked}
 use borrow.Author.Needs.{needs}
 use Rattle.direct.proofs.hand.Statement.{statement}
 use Rattle.direct.proofs.hand.Tie as tie

@@ -5,12 +5,14 @@ use native.Mathlib.Omega.{arith}
 use native.Mathlib.Nat.{not-le-of-lt}
 use mathlib.Core.Path.{_≡_, sym, ap, subst, _∙_}
 use lib.ListN.{length}
-use Rattle.generate.specs.Generated.{generatedOf}
+use Rattle.generated.specs.Generated.{generatedOf}
 use Rattle.score_state.specs.Answer.{Answer}
 use Rattle.nearest_laws.specs.Nearest.{Weighting}
 use Rattle.generate_laws.specs.Generate.{scoredAnswer}
-use Rattle.direct.specs.Direct.{sixCounts, classicIn, weightsIn, queryBy, handed}
-use Rattle.direct.proofs.Handed.{handed-short, answer-numbered}
+use Rattle.score_state.specs.Lent.{sixCounts, handed}
+use Rattle.direct.specs.Direct.{classicIn, weightsIn, queryBy}
+use Rattle.score_state.proofs.Lent.{handed-short}
+use Rattle.direct.proofs.Handed.{answer-numbered}
 use borrow.Author.Needs.{needs}
 use Rattle.direct.proofs.scored.Statement.{statement}
 use Rattle.direct.proofs.scored.Tie as tie

@@ -2,7 +2,8 @@
 use native.Mathlib.Omega.{arith}
 use borrow.Author.Needs.{needs}
 use Rattle.text.proofs.Appended.{nothing}
-use Rattle.sheet_lines.specs.Lines.{spaced, flagged}
+use Rattle.accuracy_text.specs.AccuracyText.{spaced}
+use Rattle.sheet_lines.specs.Lines.{flagged}
 use Rattle.sheet_lines.proofs.put_flag.Statement.{statement}
 use Rattle.sheet_lines.proofs.put_flag.Tie as tie
 

@@ -5,7 +5,7 @@ use borrow.Author.Needs.{needs}
 use Rattle.text.proofs.Appended.{followed, restated}
 use Rattle.typed_line.specs.Keywords.{worst, classic}
 use Rattle.sheet_lines.specs.Lines.{flagged, flagWords}
-use Rattle.sheet_lines.proofs.Pieces.{two}
+use Rattle.accuracy_text.proofs.Pieces.{two}
 use Rattle.sheet_lines.proofs.put_flags.Statement.{statement}
 use Rattle.sheet_lines.proofs.put_flags.Tie as tie
 

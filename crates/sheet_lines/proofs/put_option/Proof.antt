@@ -4,8 +4,9 @@ use native.Mathlib.Omega.{arith}
 use borrow.Author.Needs.{needs}
 use Rattle.text.specs.Text.{decimalText}
 use Rattle.text.proofs.Appended.{nothing, followed, restated}
-use Rattle.sheet_lines.specs.Lines.{spaced, numbered}
-use Rattle.sheet_lines.proofs.Pieces.{two}
+use Rattle.accuracy_text.specs.AccuracyText.{spaced}
+use Rattle.sheet_lines.specs.Lines.{numbered}
+use Rattle.accuracy_text.proofs.Pieces.{two}
 use Rattle.sheet_lines.proofs.put_option.Statement.{statement}
 use Rattle.sheet_lines.proofs.put_option.Tie as tie
 

@@ -4,8 +4,9 @@ use native.Mathlib.Omega.{arith}
 use borrow.Author.Needs.{needs}
 use Rattle.inspect.specs.Presence.{has}
 use Rattle.text.proofs.Appended.{followed, restated}
-use Rattle.sheet_lines.specs.Lines.{flagWords, highWords, lowWords, reachedWords, accuracyWords, optionWords}
-use Rattle.sheet_lines.proofs.Pieces.{two}
+use Rattle.accuracy_text.specs.AccuracyText.{accuracyWords}
+use Rattle.sheet_lines.specs.Lines.{flagWords, highWords, lowWords, reachedWords, optionWords}
+use Rattle.accuracy_text.proofs.Pieces.{two}
 use Rattle.sheet_lines.proofs.put_options.Statement.{statement}
 use Rattle.sheet_lines.proofs.put_options.Tie as tie
 

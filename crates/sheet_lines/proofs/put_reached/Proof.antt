@@ -6,7 +6,7 @@ use Rattle.inspect.specs.Presence.{has}
 use Rattle.text.proofs.Appended.{followed, restated}
 use Rattle.typed_line.specs.Keywords.{passed, holds}
 use Rattle.sheet_lines.specs.Lines.{numbered, reachedWords}
-use Rattle.sheet_lines.proofs.Pieces.{two}
+use Rattle.accuracy_text.proofs.Pieces.{two}
 use Rattle.sheet_lines.proofs.put_reached.Statement.{statement}
 use Rattle.sheet_lines.proofs.put_reached.Tie as tie
 

@@ -2,7 +2,7 @@
 use borrow.Author.Needs.{needs}
 use Rattle.text.specs.Text.{decimalText}
 use Rattle.text.proofs.Appended.{restated}
-use Rattle.sheet_lines.proofs.Pieces.{one}
+use Rattle.accuracy_text.proofs.Pieces.{one}
 use Rattle.sheet_lines.proofs.put_value.Statement.{statement}
 use Rattle.sheet_lines.proofs.put_value.Tie as tie
 

@@ -6,7 +6,7 @@ use lib.ListN.{length}
 use Rattle.lists.specs.Lists.{joined}
 use Rattle.text.specs.Text.{Appended}
 use Rattle.text.proofs.Appended.{nothing, next-piece}
-use Rattle.table.specs.Table.{rowText}
+use Rattle.row_text.specs.RowText.{rowText}
 use Rattle.table.proofs.put_rows.Statement.{statement}
 use Rattle.table.proofs.put_rows.Tie as tie
 

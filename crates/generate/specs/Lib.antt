@@ -1,2 +1,0 @@
-pub mod Generated
-pub mod Code
