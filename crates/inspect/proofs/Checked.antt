@@ -6,7 +6,7 @@ use mathlib.Core.Option.{Option, none, some}
 use Prim.Native.Nat.{ℕ, _+_, _*_, _≤_, _<_, min}
 use native.Mathlib.Nat.{mul-le-mul, le-refl, le-trans}
 use native.Mathlib.Omega.{arith}
-use borrow.Author.Tests.{ltb-false, le-ltb, eq-eqb, ne-eqb}
+use borrow.Author.Tests.{ltb-false, le-ltb}
 use lib.Dec.{T, ltb}
 use lib.Ieee.{Float, le}
 use Rattle.rounding.specs.Round.{zero64, one64}
@@ -14,14 +14,10 @@ use Rattle.score_state.specs.Accuracy.{cap}
 use Rattle.score_state.specs.Given.{or}
 use Rattle.score_state.proofs.Caps.{or-left, or-right}
 use Rattle.inspect.specs.Presence.{given}
-use mathlib.Core.List.{[], _∷_}
-use Rattle.score_state.specs.Points.{perfectWeight}
 use Rattle.inspect.specs.Inspect.{Inspect, inspectOf, accOf, holdsOf, shortened, totalHits, cappedMisses, misses, remain}
-use Rattle.inspect.specs.Target.{target}
-use Rattle.score_state.specs.Answer.{refused, worked, unless}
 use Rattle.inspect.proofs.Total.{total-classic, total-holds}
 use Rattle.inspect.specs.declared.Accuracy.{Accuracy}
-use Rattle.inspect.specs.declared.Accuracy.the-variants.{Given, Absent}
+use Rattle.inspect.specs.declared.Accuracy.the-variants.{Given}
 use Rattle.inspect.specs.Checks.{chartOver, chartLimit, unknownCode, overCap, countOver, accOutside, stopOf, InRange, Domain}
 use Rattle.inspect.specs.declared.Chart.{Chart}
 use Rattle.inspect.specs.declared.Query.{Query}

@@ -1,6 +1,6 @@
 -- What is written has the bits, with as few digits behind the point as any percentage that has them; and every percentage that can be
 -- typed has at most 12, so that one is written wherever one could be typed. Assumes nothing.
-use mathlib.Core.Path.{_≡_, refl, sym, ap, _∙_, subst}
+use mathlib.Core.Path.{_≡_, refl, sym, _∙_, subst}
 use mathlib.Core.List.{List, [], _∷_}
 use Prim.Native.Nat.{ℕ, zero, suc, _+_, _-_, _*_, _^_, _≤_, _<_}
 use native.Mathlib.Nat.{pow-suc}
@@ -9,8 +9,7 @@ use native.Mathlib.Omega.{arith}
 use mathlib.Core.Bool.{Bool, true, false, cond}
 use lib.Dec.{eqb, ltb}
 use lib.ListN.{length, getD}
-use borrow.Author.Tests.{ltb-true, ltb-false, eqb-true}
-use Rattle.words.specs.declared.Value.{Value}
+use borrow.Author.Tests.{ltb-true, ltb-false}
 use Rattle.words.specs.declared.Value.the-variants.{Is, Bad}
 use Rattle.words.specs.Values.{hundredth, behindPoint, beforePoint, percentOf}
 use Rattle.percent.specs.declared.Percentage.{Percentage}

@@ -12,7 +12,6 @@ use lib.Ieee.Bits.{ofBits-toBits}
 use borrow.Author.Tests.{ltb-true, lt-ltb, eqb-true, eq-eqb}
 use Rattle.rounding.specs.Round.{roundEven, product, zero64}
 use Rattle.words.specs.Values.{hundredth}
-use Rattle.percent.specs.declared.Percentage.{Percentage}
 use Rattle.percent.specs.declared.Percentage.the-variants.{Has, Missing}
 use Rattle.percent.specs.Percent.{percentAt, reads, percentWith}
 use Rattle.percent.proofs.Only.{whole-is, product-is, product-from, product-below}

@@ -3,25 +3,23 @@
 -- one of them, and its product by less than a quarter more. Assumes nothing.
 use mathlib.Core.Path.{_≡_, refl, sym, ap, _∙_, subst}
 use mathlib.Core.Logic.{inl, inr}
-use Prim.Native.Nat.{ℕ, zero, suc, _+_, _-_, _*_, _^_, _≤_, _<_, zero-le}
-use native.Mathlib.Nat.{le-of-eq, le-trans, le-of-lt, lt-of-lt-of-le, lt-of-le-of-lt, mul-pos, mul-one, one-mul, zero-mul, mul-comm, mul-assoc, mul-right-comm, mul-le-mul-right, mul-le-mul-left, le-of-mul-le-mul-right, le-mul-of-pos-right, eq-zero-or-pos, add-mul, mul-mul-mul-comm}
+use Prim.Native.Nat.{ℕ, _+_, _-_, _*_, _^_, _≤_, _<_, zero-le}
+use native.Mathlib.Nat.{le-of-eq, le-trans, lt-of-lt-of-le, lt-of-le-of-lt, mul-pos, mul-one, one-mul, zero-mul, mul-right-comm, mul-le-mul-right, le-of-mul-le-mul-right, le-mul-of-pos-right, eq-zero-or-pos, add-mul, mul-mul-mul-comm}
 use native.Mathlib.Omega.{arith}
 use mathlib.Core.Bool.{true, false, true≢false}
 use lib.IntN.{pos}
 use lib.Dec.{T, lit<, lit≤, lt→ltb}
 use lib.Pow.{pow-pos}
-use lib.Ieee.{Float, nan, inf, fin, binary64, low, up, down, round, mul, ofInt, lt, le, ofBits, toBits}
-use lib.Ieee.Fits.{down-pos, round-fits}
-use lib.Ieee.Bits.{ofBits-toBits}
+use lib.Ieee.{Float, nan, inf, fin, binary64, low, up, down, round, mul, ofInt, lt, le}
+use lib.Ieee.Fits.{down-pos}
 use lib.Ieee.Exact.{HasValue}
 use lib.Ieee.Nearest.{closest, closest-same}
 use lib.Ieee.Order.{drop, le-of-values}
-use lib.Ieee.Scale.{round-same, round-val, grid, overflow}
+use lib.Ieee.Scale.{round-same, round-val, grid}
 use Rattle.rounding.specs.Round.{roundEven, product, zero64}
-use Rattle.rounding.proofs.Floats.{of-int, lt-value, zero-is}
+use Rattle.rounding.proofs.Floats.{of-int, lt-value}
 use Rattle.rounding.proofs.Near.{G, near, closest-at}
-use Rattle.words.specs.Values.{hundredth}
-use Rattle.percent.specs.Percent.{wholeOf, percentAt}
+use Rattle.percent.specs.Percent.{wholeOf}
 
 -- ---- numbers, S being eight times W
 abbrev Near : ℕ → ℕ → ℕ → Type 0

@@ -1,6 +1,6 @@
 -- What is typed in a line does not depend on where its words stand: lines as folds over words alone.
 -- Assumes nothing.
-use mathlib.Core.Path.{_≡_, refl, sym, ap, _∙_}
+use mathlib.Core.Path.{_≡_, refl, ap, _∙_}
 use mathlib.Core.List.{List, [], _∷_, _++_}
 use mathlib.Core.Bool.{Bool, true, false, cond}
 use Prim.Native.Nat.{ℕ, _-_}
@@ -12,7 +12,7 @@ use Rattle.words.specs.declared.Value.{Value}
 use Rattle.words.specs.declared.Value.the-variants.{Is, Bad}
 use Rattle.typed_line.specs.declared.Line.{Line}
 use Rattle.typed_line.specs.Keywords.{kindOf, optionOf}
-use Rattle.typed_line.specs.Line.{fresh, noted, told, begun, awaits, stores, opens, fieldOf, names, valueFor, slot, after, fills, judged, takes, takesAll, closed, readOf, lineOf}
+use Rattle.typed_line.specs.Line.{fresh, noted, begun, awaits, stores, opens, fieldOf, names, valueFor, fills, judged, takes, takesAll, closed, readOf, lineOf}
 use Rattle.typed_records.specs.Records.{valueBytes, presence, namedBytes, givenBytes, tailBytes, playBytes, recordBytes}
 use Rattle.accuracy_text.specs.AccuracyText.{spaced}
 use Rattle.round_trip.proofs.Words.{texts, word, allWords, words-back, in-line, unended-same}

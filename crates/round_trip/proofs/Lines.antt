@@ -6,17 +6,13 @@ use mathlib.Core.Bool.{Bool, true, false, cond}
 use Prim.Native.Nat.{ℕ, _+_, _-_, _≤_, _<_}
 use native.Mathlib.Omega.{arith}
 use lib.Dec.{eqb, ltb}
-use lib.ListN.{length, getD, set, replicate}
+use lib.ListN.{getD, set, replicate}
 use lib.Seq.{set-getD}
 use borrow.Author.Tests.{lt-ltb, le-ltb, ne-eqb, eqb-true, eqb-false}
 use Rattle.words.specs.Words.{says, among}
-use Rattle.words.specs.Values.{numberOf, hexOf}
-use Rattle.words.specs.declared.Value.{Value}
-use Rattle.words.specs.declared.Value.the-variants.{Is, Bad}
+use Rattle.words.specs.declared.Value.the-variants.{Is}
 use Rattle.text.specs.Text.{decimalText}
 use Rattle.inspect.specs.Presence.{has}
-use Rattle.inspect.specs.declared.Chart.{Chart}
-use Rattle.score_state.specs.declared.Weights.{Weights}
 use Rattle.records.specs.declared.Row.{Row}
 use Rattle.typed_line.specs.declared.Line.{Line}
 use Rattle.typed_line.specs.Keywords.{chart, weights, play, ignore, fast, closest, nearest, n320, n300, n200, n100, n50, misses, acc, passed, holds, accbits, best, worst, classic, kindOf, methodOf, optionOf}
@@ -28,7 +24,7 @@ use Rattle.percent.proofs.Found.{Reads}
 use Rattle.percent.proofs.Fewest.{shortest-reads}
 use Rattle.accuracy_text.specs.AccuracyText.{hexText, percentText, wordsBy, accuracyWords}
 use Rattle.sheet_lines.specs.Lines.{methodWord, flagged, numbered, flagWords, highWords, lowWords, reachedWords, optionWords}
-use Rattle.round_trip.proofs.Words.{word, allWords, words-append, both}
+use Rattle.round_trip.proofs.Words.{word, allWords, words-append}
 use Rattle.round_trip.proofs.Values.{decimal-word, decimal-back, hex-word, hex-back, percent-word, percent-back}
 use Rattle.round_trip.proofs.Free.{unplaced, hears, hearsAll, hears-append}
 

@@ -2,38 +2,34 @@
 -- Assumes nothing.
 use mathlib.Core.Path.{_≡_, refl, sym, ap, _∙_}
 use mathlib.Core.List.{List, [], _∷_, _++_, append-nil}
-use mathlib.Core.Bool.{Bool, true, false, cond}
+use mathlib.Core.Bool.{true}
 use Prim.Native.Nat.{ℕ, zero, suc, _+_, _-_, _*_, _≤_, _<_}
 use native.Mathlib.Numerals.{add-one}
 use native.Mathlib.Omega.{arith}
-use lib.Dec.{eqb, ltb}
 use lib.ListN.{length, drop, length-append}
 use lib.Seq.{take-length}
 use borrow.Author.Tests.{le-ltb}
 use Rattle.lists.specs.Lists.{joined}
 use Rattle.little_endian.specs.Bytes.{byte, u32At, bytes4}
 use Rattle.text.specs.Text.{decimalText}
-use Rattle.words.specs.Lines.{Part, part, linesFrom, lines}
-use Rattle.inspect.specs.declared.Chart.{Chart}
+use Rattle.words.specs.Lines.{linesFrom, lines}
 use Rattle.records.specs.Records.{chartAt, weightsAt, rowAt}
 use Rattle.records.specs.declared.Row.{Row}
 use Rattle.row_checks.specs.RowChecks.{unknownRow, fieldsLeft}
-use Rattle.sheets_laws.specs.Sheets.{chartCount, scoringAt, ownCount, queriesAt, queryCount, rowsAt, rowOf}
-use Rattle.typed_line.specs.declared.Line.{Line}
+use Rattle.sheets_laws.specs.Sheets.{scoringAt, ownCount, queryCount, rowsAt, rowOf}
 use Rattle.typed_line.specs.Keywords.{chart, weights, play}
-use Rattle.typed_line.specs.Line.{lineOf}
 use Rattle.typed_sheet.specs.declared.Tally.{Tally}
 use Rattle.typed_sheet.specs.declared.Typed.the-variants.{Sheet}
-use Rattle.typed_sheet.specs.Typed.{records, tallyAll, none, tallyOf, sheetSize, sheetBytes, Outcome, outcomeOf, typedSheet}
+use Rattle.typed_sheet.specs.Typed.{tallyAll, none, tallyOf, sheetSize, sheetBytes, Outcome, outcomeOf, typedSheet}
 use Rattle.accuracy_text.specs.AccuracyText.{spaced}
 use Rattle.sheet_lines.specs.Lines.{lineText, chartText, weightsText, playText, methodWord, optionWords}
 use Rattle.typed_text.specs.declared.Places.{Places}
-use Rattle.typed_text.specs.SheetText.{placesOf, Placed, lineAt, lineCount, textOf}
+use Rattle.typed_text.specs.SheetText.{placesOf, Placed, lineAt, textOf}
 use Rattle.typed_text.proofs.Inside.{Within, placed, charts-are, own-are, weights-at, rows-at, queries-are}
 use Rattle.typed_text.proofs.Texts.{line-chart, line-weights, line-play, all-lines}
 use Rattle.round_trip.specs.RoundTrip.{HasText, ReadBack}
 use Rattle.round_trip.proofs.Words.{word, allWords, in-line}
-use Rattle.round_trip.proofs.Free.{unplaced, line-heard}
+use Rattle.round_trip.proofs.Free.{line-heard}
 use Rattle.round_trip.proofs.Lines.{chartLine, weightsLine, playLine, Small, chart-heard, chart-words, weights-heard, weights-words, play-heard, play-words}
 use Rattle.round_trip.proofs.Records.{piece, glue, four-back, u32-small, Known, known-row, Clean, clean-row, chart-back, weights-back, small-row, play-back}
 use Rattle.round_trip.proofs.Steps.{tal, Upto, nothing, add-line, counts-chart, counts-weights, counts-play}

@@ -6,18 +6,18 @@ use mathlib.Core.Bool.{Bool, true, false, cond}
 use Prim.Native.Nat.{ℕ, zero, suc, _+_, _-_, _*_, _/_, _%_, _^_, _≤_, _<_}
 use native.Mathlib.Nat.{pow-suc, mul-comm, mod-lt, div-one, div-div-eq-div-mul}
 use native.Mathlib.Omega.{arith}
-use lib.Dec.{eqb, ltb}
+use lib.Dec.{ltb}
 use lib.ListN.{length, getD, length-append}
 use borrow.Author.Tests.{lt-ltb, le-ltb, eq-eqb, ne-eqb, ltb-true, ltb-false}
 use Rattle.text.specs.Text.{decimalUpTo, decimalText}
 use Rattle.words.specs.Words.{small}
 use Rattle.words.specs.Values.{digits, numberOf, hundredth, behindPoint, beforePoint, percentOf, hexDigit, hex, hexOf}
 use Rattle.words.specs.declared.Value.{Value}
-use Rattle.words.specs.declared.Value.the-variants.{Is, Bad}
+use Rattle.words.specs.declared.Value.the-variants.{Is}
 use Rattle.percent.proofs.Found.{Reads}
 use Rattle.accuracy_text.specs.AccuracyText.{hexLetter, lastDigits, hexText, behindText, percentText}
 use Rattle.accuracy_text.proofs.Pieces.{digits-length, before-small}
-use Rattle.round_trip.proofs.Words.{plain, allPlain, word, some-word, plain-at, plain-append}
+use Rattle.round_trip.proofs.Words.{allPlain, word, some-word, plain-at, plain-append}
 
 -- ---- decimal
 digit-in : (m v : ℕ) (cs : List ℕ) → v ≡ m / 10 → m ≤ 4294967295 → digits ((48 + m % 10) ∷ cs) v ≡ digits cs m

@@ -1,7 +1,7 @@
 -- What the rounding of a fraction to an f64 changes: in the normal range at most one part in 2 ^ 53. And the whole number nearest to a
 -- fraction that lies less than a half from it. Assumes nothing.
 use mathlib.Core.Path.{_≡_, sym, ap, _∙_, subst}
-use Prim.Native.Nat.{ℕ, suc, _+_, _-_, _*_, _/_, _^_, _≤_, _<_, compare, Ordering, Ordering·lt, Ordering·eq, Ordering·gt}
+use Prim.Native.Nat.{ℕ, _+_, _-_, _*_, _/_, _^_, _≤_, _<_, compare, Ordering, Ordering·lt, Ordering·eq, Ordering·gt}
 use native.Mathlib.Nat.{le-of-eq, le-trans, lt-of-lt-of-le, lt-of-not-le, not-le-of-lt, mul-pos, mul-assoc, mul-comm, mul-le-mul-right, suc-mul, le-div-iff-mul-le}
 use native.Mathlib.Omega.{arith}
 use lib.Pow.{pow-pos, pow-mono, pow-add}

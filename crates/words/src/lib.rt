@@ -1,7 +1,7 @@
 // The lines and the words of a typed sheet: where they start and end, whether a word is a keyword, and the values that words stand for.
 ghost use mathlib.Core.Path.{_≡_};
 ghost use mathlib.Core.Bool.{false};
-ghost use Prim.Native.Nat.{_+_, _*_, _^_, _<_, _≤_};
+ghost use Prim.Native.Nat.{_+_, _*_, _<_, _≤_};
 ghost use lib.ListN.{length, take, drop};
 ghost use lib.Ieee.{binary64, round, toBits};
 ghost use Rattle.words.specs.Lines.{lineSize, unended};
