@@ -67,7 +67,7 @@ int main(void)
     check_lengths(nuqsillay_sheet_of, back, strlen(back), sheet, sizeof sheet, 15, 3, "the text of a sheet");
 
     static const char twice[] = "chart 20 0\nplay 0 nearest n300 7 n300 8\n";
-    static const uint64_t fault[3] = {2, 32, 4};
+    static const uint64_t fault[3] = {2, 33, 4};
     check(nuqsillay_sheet_of, twice, strlen(twice), ROOM, 3, 4, "", 0, fault, 3, "a count given twice");
     check(nuqsillay_sheet_of, twice, strlen(twice), 0, TOLD, 4, "", 0, fault, 3, "a count given twice, no output");
     check(nuqsillay_sheet_of, twice, strlen(twice), ROOM, 2, 15, "", 0, fault, 0, "a count given twice");
