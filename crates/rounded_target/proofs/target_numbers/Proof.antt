@@ -12,7 +12,7 @@ use Rattle.rounded_target.proofs.target_numbers.Tie as tie
 returns : tie.Need-returns
 returns c =
     let x = c .before .before .args in
-    handed-short 4 (targetAnswer (targetQuery (x .objects) (x .holds) (x .classic) (x .presence) (x .misses) (x .passed) (x .holds-given) (x .holds-passed) (x .acc))) (x .out .now) (c .if1 .taken)
+    handed-short 4 (targetAnswer (targetQuery (x .objects) (x .holds) (x .classic) (x .presence) (x .misses) (x .passed) (x .holds-given) (x .holds-passed) (x .acc))) (x .out .now) (omega arith)
 
 target-query-requires : tie.Need-target-query-requires
 target-query-requires c κs = tt
