@@ -10,7 +10,7 @@ pub enum Percentage {
 }
 
 // The percentage with k digits behind the point that has these bits, q being 100 times 10 to k: of all whole numbers only the f64
-// product, rounded, can be its digits.
+// product, rounded, can be its digits, and that lies below 2^51.
 fn percentage_with(bits: u64, k: u32, q: u64) -> Percentage
     requires { ⌜ (k ≤ 12) × (q ≡ 100 * 10 ^ k) ⌝ }
     ensures { λ r. ⌜ r ≡ percentWith bits k ⌝ }
