@@ -1,6 +1,8 @@
 // closest.rs: the counts whose accuracy is closest to a given one, by the Rust's search. Its functions stand here in its order, but
 // for those that look at points alone (crate `closest_points`). Each loop runs over its first two values only: the others never
 // change the answer, as crate `closest_laws` proves.
+#![tactic(auto)]
+
 ghost use Rattle.std.specs.Prelude.{◌≡◌, List, [], ◌∷◌, ℕ, ◌+◌, ◌-◌, ◌*◌, ◌<◌, ◌≤◌, T};
 ghost use Rattle.std.proofs.Math.Option.{Option};
 ghost use Rattle.std.specs.Float.Ieee as Ieee;

@@ -1,6 +1,8 @@
 // The parts of closest.rs that look for a number of points, in whole numbers: for two missing counts (`solve_two_vars`), for the last
 // three (`two_of_last`, `all_three`), and the values that n320 and n300 run through. Each loop runs over its first two values only:
 // the others never change the answer, as crate `closest_laws` proves.
+#![tactic(auto)]
+
 ghost use Rattle.std.specs.Prelude.{◌≡◌, [], ◌∷◌, ◌+◌, ◌-◌, ◌*◌, ◌/◌, ◌<◌, ◌≤◌};
 ghost use Rattle.std.proofs.Math.Option.{none};
 ghost use Rattle.rounding.specs.Quotient.{rounded_up};

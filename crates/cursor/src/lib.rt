@@ -1,6 +1,8 @@
 // The sheet's bytes are walked by one cursor that holds the sheet: it is made once, at the first byte, and each read hands back the bytes
 // that it read and the cursor behind them. The borrow checker covers no function over such a struct, so `new` and `read` are proved by
 // hand; `bytes_at`, on a plain slice and numbers, is covered.
+#![tactic(auto)]
+
 ghost use Rattle.std.specs.Prelude.{◌≡◌, ◌+◌, ◌≤◌, length, take, drop};
 
 #[derive(Drop)]

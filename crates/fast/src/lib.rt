@@ -1,4 +1,6 @@
 // fast.rs: the given counts clamped, and the missing ones filled greedily towards the accuracy.
+#![tactic(auto)]
+
 ghost use Rattle.std.specs.Prelude.{◌≡◌, cond, ℕ, ◌+◌, ◌≤◌, ◌<◌, T, eqb};
 ghost use Rattle.std.specs.Float.Ieee as Ieee;
 ghost use Rattle.rounding.specs.Round.{zero64, one64};

@@ -1,4 +1,6 @@
 // ignore_acc.rs: the counts by priority alone; the accuracy plays no part.
+#![tactic(auto)]
+
 ghost use Rattle.std.specs.Prelude.{◌≡◌, ◌<◌, ◌≤◌};
 ghost use Rattle.units.specs.Limits.{most_hits};
 ghost use Rattle.score_state.specs.Points as Points;

@@ -1,4 +1,6 @@
 // inspect.rs: a query, its total hits, misses and remaining hits, the rounded target, and the checks that every method shares.
+#![tactic(auto)]
+
 ghost use Rattle.std.specs.Prelude.{◌≡◌, cond, ◌≤◌, ◌<◌, ◌*◌, T};
 ghost use Rattle.std.specs.Float.Ieee as Ieee;
 ghost use Rattle.rounding.specs.Round.{zero64, one64};

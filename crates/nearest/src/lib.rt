@@ -1,4 +1,6 @@
 // Nearest (document 01; not the repository's): of all splits the one whose points lie nearest to the rounded target.
+#![tactic(auto)]
+
 ghost use Rattle.std.specs.Prelude.{◌≡◌, false, not, ◌&&◌, ◌||◌, [], ◌∷◌, eqb, ltb, suc, ◌+◌, ◌*◌, ◌<◌, ◌≤◌, ◌-◌};
 ghost use Rattle.std.proofs.Math.Option.{none};
 ghost use Rattle.units.specs.Limits.{most32, most_weight};

@@ -1,4 +1,6 @@
 // The percentage that an accuracy's text says: with as few digits behind the point as give the same f64.
+#![tactic(auto)]
+
 ghost use Rattle.std.specs.Prelude.{◌≡◌, ◌*◌, ◌^◌, ◌≤◌};
 ghost use Rattle.percent.specs.Percent.{percent_with, shortest};
 

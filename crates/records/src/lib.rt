@@ -1,4 +1,6 @@
 // Records as numbers: a section's count of 4 bytes, a sheet's chart of 8 and its query's row of 48, and five weights of 20.
+#![tactic(auto)]
+
 ghost use Rattle.std.specs.Prelude.{◌≡◌, cond, ◌+◌, ◌*◌, ◌≤◌, eqb, length};
 ghost use Rattle.little_endian.specs.Bytes.{u32_at};
 ghost use Rattle.weighting.specs.declared.Scoring.TheVariants.{Standard, Own};

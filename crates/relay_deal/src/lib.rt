@@ -1,4 +1,6 @@
 // The pool of a relay dealt to its charts in order, best judgement first.
+#![tactic(auto)]
+
 ghost use Rattle.std.specs.Prelude.{◌≡◌, [], ◌∷◌, ◌++◌, map, ◌+◌, ◌-◌, ◌≤◌, ◌<◌, min, length};
 ghost use Rattle.lists.specs.Lists.{put};
 ghost use Rattle.nearest.specs.Outcome.{five_of};

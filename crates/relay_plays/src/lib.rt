@@ -1,4 +1,6 @@
 // The charts of a relay as they are handed over, three numbers each (objects, holds, misses), and the checks that come before its pool.
+#![tactic(auto)]
+
 ghost use Rattle.std.specs.Prelude.{◌≡◌, ◌||◌, ◌<◌};
 ghost use Rattle.inspect.specs.Inspect.{acc_of};
 ghost use Rattle.relay_laws.specs.Plays.{play_at, chart_count, plays_of, play_query};

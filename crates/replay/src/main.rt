@@ -3,6 +3,8 @@
 // A record has 92 bytes: kind, priority, classic, presence; then u32s: objects, holds, n320, n300, n200, n100, n50, misses, passed;
 // at 40 the accuracy's f64; then u32s again: 1 where the holds passed are given, and their number; and from 56 on the expected status
 // and values, left by its bits.
+#![tactic(auto)]
+
 ghost use Rattle.std.specs.Prelude.{◌+◌, ◌*◌, ◌<◌, ◌≤◌, length};
 
 use generated::Generated;

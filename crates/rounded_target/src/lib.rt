@@ -1,4 +1,6 @@
 // The rounded target of a query, which is filed beside its split.
+#![tactic(auto)]
+
 ghost use Rattle.std.specs.Prelude.{◌≡◌};
 ghost use Rattle.score_state.specs.Lent.{lent, handed};
 ghost use Rattle.rounded_target.specs.Answers.{answer_of, target_answer, target_query};

@@ -1,4 +1,6 @@
 // score_state.rs: the six judgement counts, their points and their accuracy.
+#![tactic(auto)]
+
 ghost use Rattle.std.specs.Prelude.{◌≡◌, ◌*◌, ◌≤◌};
 ghost use Rattle.units.specs.Limits.{most_weight};
 ghost use Rattle.score_state.specs.Points.{standard, points, weights_of, counts_of, total_hits, perfect_weight, Light};

@@ -1,5 +1,7 @@
 // What the program `sheet` does: it reads a sheet and writes what `table::print_sheet` makes of it, whose contract says every byte. That
 // the bytes that come are those handed to `print_sheet`, and its bytes those that go, is three lines of `print_from`.
+#![tactic(auto)]
+
 use libc::STDIN_FILENO;
 use streams::Input;
 

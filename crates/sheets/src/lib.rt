@@ -1,4 +1,6 @@
 // The call that works a sheet.
+#![tactic(auto)]
+
 ghost use Rattle.std.specs.Prelude.{◌≡◌, ◌+◌, ◌*◌, ◌≤◌, length};
 ghost use Rattle.little_endian.specs.Bytes.{u32_at};
 ghost use Rattle.sheets_laws.specs.Sheets.{charts_stop, scoring_stop, queries_stop, sheet_stop, sheet_of};

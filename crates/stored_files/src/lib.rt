@@ -1,5 +1,7 @@
 // What the gate's programs of stored inputs do with each file: they name it, print what a program prints of it, and tell what that left
 // of it.
+#![tactic(auto)]
+
 use libc::STDOUT_FILENO;
 
 // Prints the file's name and opens it.

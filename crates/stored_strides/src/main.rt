@@ -1,5 +1,7 @@
 // The gate's stored weights: each file of data/ is printed as the program `strides` prints it, after a line with its name; stdout has what
 // is expected. `tests/beside/run stored_strides` writes both.
+#![tactic(auto)]
+
 fn stored(name: &[u8]) {
     let fd = stored_files::opened(name);
     stored_files::closed(fd, stride_print::print_from(fd));

@@ -1,5 +1,7 @@
 // What the programs do with their input and output: they read all of it, write a text at once, and tell a read or a write that failed on
 // standard error. No contract can say what is read or written.
+#![tactic(auto)]
+
 ghost use Rattle.std.specs.Prelude.{◌≡◌, false};
 ghost use Rattle.streams.specs.Input.{Within};
 

@@ -1,5 +1,7 @@
 // What the program `strides` does: it reads ten weights and writes what `stride_text::print_strides` makes of them, whose contract says
 // every byte. That the bytes that come are those handed to `print_strides`, and its bytes those that go, is three lines of `print_from`.
+#![tactic(auto)]
+
 use libc::STDIN_FILENO;
 use streams::Input;
 

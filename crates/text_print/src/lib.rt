@@ -1,5 +1,7 @@
 // What the program `sheet_text` does: it reads a sheet and writes its text, whose every byte `typed_text::text_of` tells, or tells on
 // standard error what refuses it. That the bytes that come are those handed to `text_of`, and its bytes those that go, is in `print_from`.
+#![tactic(auto)]
+
 ghost use Rattle.std.specs.Prelude.{◌≤◌, length};
 ghost use Rattle.text.specs.Text.{Appended};
 ghost use Rattle.text_print.specs.Stopped.{stopped_text};

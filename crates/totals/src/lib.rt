@@ -1,4 +1,6 @@
 // The seven numbers of a sheet's closing line, taken over the answers that its output holds.
+#![tactic(auto)]
+
 ghost use Rattle.std.specs.Prelude.{◌≡◌, ◌+◌, ◌*◌, ◌≤◌, ◌<◌, length};
 ghost use Rattle.little_endian.specs.Bytes.{u32_at};
 ghost use Rattle.totals.specs.Totals.{totals_over, seven_of, Within};

@@ -1,4 +1,6 @@
 // The program: a text from standard input, its sheet to standard output. Its stored text is the page's example.
+#![tactic(auto)]
+
 fn main() {
     typed_print::make();
 }

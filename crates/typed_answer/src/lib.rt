@@ -1,4 +1,6 @@
 // What a typed sheet gives, as bytes in lent buffers: the sheet, or what is printed of it; or how its first fault is told.
+#![tactic(auto)]
+
 ghost use Rattle.typed_answer.specs.Answers.{sheet_answer, table_answer, Makes};
 
 use typed_sheet::Typed;

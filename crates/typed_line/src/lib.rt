@@ -1,4 +1,6 @@
 // A line of a typed sheet, read word by word into a struct.
+#![tactic(auto)]
+
 ghost use Rattle.std.specs.Prelude.{◌≡◌, ◌+◌, ◌*◌, ◌<◌, ◌≤◌, length};
 ghost use Rattle.words.specs.Lines.{part};
 ghost use Rattle.typed_line.specs.Keywords.{kind_of, method_of, option_of};

@@ -1,5 +1,7 @@
 // What the programs `type_sheet` and `typed` do: each reads a text and writes what `typed_answer` makes of it, whose contracts say every byte.
 // That the bytes that come are those handed over, and the bytes that are made those that go, is a few lines of `make_from` and `print_from`.
+#![tactic(auto)]
+
 ghost use Rattle.streams.specs.Input.{Within};
 
 use libc::STDIN_FILENO;

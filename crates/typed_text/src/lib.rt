@@ -1,4 +1,6 @@
 // The text of a sheet: what is typed to get it.
+#![tactic(auto)]
+
 ghost use Rattle.std.specs.Prelude.{◌≡◌, ◌+◌, ◌≤◌, ◌<◌, length};
 ghost use Rattle.lists.specs.Lists.{joined};
 ghost use Rattle.text.specs.Text.{Appended};

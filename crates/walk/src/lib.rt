@@ -1,4 +1,6 @@
 // Nearest's walk (document 01, steps 2 to 4): both candidates of every setting of the middles, and the first nearest of them.
+#![tactic(auto)]
+
 ghost use Rattle.std.specs.Prelude.{◌≡◌, false, ℕ, suc, ◌+◌, ◌*◌, ◌<◌, ◌≤◌, ◌-◌, min};
 ghost use Rattle.units.specs.Limits.{most32};
 ghost use Rattle.units.specs.Gap.{gap};

@@ -1,4 +1,6 @@
 // The lines and the words of a typed sheet: where they start and end, whether a word is a keyword, and the values that words stand for.
+#![tactic(auto)]
+
 ghost use Rattle.std.specs.Prelude.{◌≡◌, false, ◌+◌, ◌*◌, ◌<◌, ◌≤◌, length, take, drop};
 ghost use Rattle.std.specs.Float.{binary64};
 ghost use Rattle.std.specs.Float.Ieee.{round, to_bits};

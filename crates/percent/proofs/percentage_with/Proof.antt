@@ -8,7 +8,7 @@ use lib.IntN.{pos}
 use borrow.Author.Rules.{rules}
 use borrow.Author.Tests.{not-true, not-false}
 use Rattle.rounding.specs.Round.{product, zero64}
-use Rattle.words.proofs.Ratio.{in_float}
+use Rattle.words.proofs.Ratio.{in-float}
 use Rattle.percent.proofs.Found.{ten_to, not_from, not_below, too_large, other_bits, has_bits}
 use Rattle.percent.proofs.percentage_with.Statement.{statement}
 use Rattle.percent.proofs.percentage_with.Tie as tie
@@ -19,7 +19,7 @@ f64-of-requires c κs = search rules
 int-to-float-x : tie.Need-int-to-float-x
 int-to-float-x c =
     let s = c.before.before in
-    in_float s.args.q (omega (arith, ten_to s.args.k s.requires.0))
+    in-float s.args.q (omega (arith, ten_to s.args.k s.requires.0))
 
 returns : tie.Need-returns
 unfolding of_bits
