@@ -26,14 +26,14 @@ use score_state::HitResults;
 use units::{Hits, Points};
 
 // What Closest answers: the six counts, or that two counts are missing and the given ones are over remain (12).
-#[derive(Drop)]
+#[derive(Clone, Copy)]
 pub enum Closest {
     Counts(HitResults),
     Overfull,
 }
 
 // The nine arguments that the Rust's functions hand on. A missing count is 0; presence says which are.
-#[derive(Drop)]
+#[derive(Clone, Copy)]
 pub struct Play {
     pub w320: u32,
     pub target_numerator: Points,
@@ -108,7 +108,7 @@ fn clamp_and_fill(play: Play) -> HitResults
 }
 
 // A count, and what is left of a pair to fill in.
-#[derive(Drop)]
+#[derive(Clone, Copy)]
 pub struct Filled {
     pub count: Hits,
     pub left: Pair,
@@ -189,7 +189,7 @@ fn optimize_two_missing(play: Play) -> Closest
 }
 
 // The weights of the two missing counts, the heavier first.
-#[derive(Drop)]
+#[derive(Clone, Copy)]
 pub struct Two(pub u32, pub u32);
 
 // The heavier stands at the lowest bit that presence lacks, the lighter at the highest.
@@ -205,7 +205,7 @@ fn missing_weights(play: Play) -> Two
 }
 
 // The best by f64 distance.
-#[derive(Drop)]
+#[derive(Clone, Copy)]
 pub struct Best {
     pub dist: f64,
     pub result: HitResults,

@@ -16,22 +16,22 @@ ghost use Rattle.closest_points.specs.Code.{TwoOfLast, pair_view, two_view, last
 use units::{Hits, Points};
 
 // Counts of two judgements, the heavier first.
-#[derive(Drop)]
+#[derive(Clone, Copy)]
 pub struct Pair(pub Hits, pub Hits);
 
 // Counts of three judgements, the heaviest first; of two, with 0 for the third.
-#[derive(Drop)]
+#[derive(Clone, Copy)]
 pub struct Three(pub Hits, pub Hits, pub Hits);
 
 // A loop's first and last value.
-#[derive(Drop)]
+#[derive(Clone, Copy)]
 pub struct Span {
     pub lo: Hits,
     pub hi: Hits,
 }
 
 // The best two or three counts by whole distance; nothing is found at the start.
-#[derive(Drop)]
+#[derive(Clone, Copy)]
 pub struct Near {
     pub found: bool,
     pub dist: Points,

@@ -5,14 +5,14 @@
 
 ghost use Rattle.std.specs.Prelude.{◌≡◌, ◌+◌, ◌≤◌, length, take, drop};
 
-#[derive(Drop)]
+#[derive(Clone, Copy)]
 pub struct Reader<'a> {
     pub sheet: &'a [u8],
     pub at: usize,
 }
 
 // What a read hands back: the bytes that were read, and the reader behind them.
-#[derive(Drop)]
+#[derive(Clone, Copy)]
 pub struct Piece<'a> {
     pub bytes: &'a [u8],
     pub rest: Reader<'a>,

@@ -19,14 +19,14 @@ use score_state::HitResults;
 use units::{Hits, Points};
 
 // Counts, and the hits that they leave.
-#[derive(Drop)]
+#[derive(Clone, Copy)]
 struct Partial {
     counts: HitResults,
     left: Hits,
 }
 
 // The running `delta`, the hits that no count takes, and the count that was taken last.
-#[derive(Drop)]
+#[derive(Clone, Copy)]
 struct Running {
     delta: Points,
     left: Hits,

@@ -5,7 +5,7 @@ ghost use Rattle.std.specs.Prelude.{◌≡◌, ◌*◌, ◌^◌, ◌≤◌};
 ghost use Rattle.percent.specs.Percent.{percent_with, shortest};
 
 // A percentage by its digits without the point, and how many of them stand behind it; or none.
-#[derive(Drop)]
+#[derive(Clone, Copy)]
 pub enum Percentage {
     Has(u64, u32),
     Missing,

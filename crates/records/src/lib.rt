@@ -11,7 +11,7 @@ use score_state::{HitResults, Weights};
 use weighting::Scoring;
 
 // A query as it stands in the sheet: holds_given is byte 6, zero byte 7, acc the bits of its f64, holds_passed the last field.
-#[derive(Drop)]
+#[derive(Clone, Copy)]
 pub struct Row {
     pub chart: u32,
     pub method: u8,

@@ -22,7 +22,7 @@ use nearest::Split;
 use units::Hits;
 
 // The total hits of all charts, and what remains of them.
-#[derive(Drop)]
+#[derive(Clone, Copy)]
 struct Pool {
     total: Hits,
     remain: Hits,

@@ -36,7 +36,7 @@ pub fn play_query(classic: bool, plays: &[u32], k: usize) -> Query
 }
 
 // Whether 7 stops one of the charts, and whether 10 does.
-#[derive(Drop)]
+#[derive(Clone, Copy)]
 struct Over {
     chart: bool,
     misses: bool,

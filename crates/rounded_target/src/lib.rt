@@ -9,7 +9,7 @@ use inspect::{Accuracy, Chart, Query};
 use units::{Hits, Points};
 
 // What is filed beside a split.
-#[derive(Drop)]
+#[derive(Clone, Copy)]
 pub struct RoundedTarget {
     pub total_hits: Hits,
     pub misses: Hits,
@@ -18,7 +18,7 @@ pub struct RoundedTarget {
 }
 
 // The rounded target with the hits it is of, or the number of the check that stops the query.
-#[derive(Drop)]
+#[derive(Clone, Copy)]
 pub enum TargetAnswer {
     Is(RoundedTarget),
     Refused(u32),

@@ -11,7 +11,7 @@ ghost use Rattle.sheets.specs.Worked.{worked_of, WhenWorked, TotalsWritten};
 use totals::Totals;
 
 // How many queries were worked and their totals, or the number of the check that stops the sheet.
-#[derive(Drop)]
+#[derive(Clone, Copy)]
 pub enum SheetAnswer {
     Worked(u32, Totals),
     Refused(u32),

@@ -8,7 +8,7 @@ use typed_sheet::Typed;
 // A full sheet with own weights.
 pub const SHEET_ROOM: usize = 4 + 256 * 8 + 4 + 5 * 4 + 4 + 1024 * 48;
 
-#[derive(Drop)]
+#[derive(Clone, Copy)]
 pub enum Made {
     // So many bytes at the start of the first buffer.
     Bytes(usize),

@@ -9,7 +9,7 @@ ghost use Rattle.typed_line.specs.Line.{fresh, noted, told, begun, awaits, store
 use words::Value;
 
 // What is known of a line after some of its words: specs/Line.antt says of each field what it is.
-#[derive(Drop)]
+#[derive(Clone, Copy)]
 pub struct Line {
     pub fault: u32,
     pub at: usize,

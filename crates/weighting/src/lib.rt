@@ -9,7 +9,7 @@ ghost use Rattle.weighting.specs.Scoring.{allowed};
 use score_state::Weights;
 
 // By which weights a sheet's rows are scored: by the two standard weightings, or by a league's own.
-#[derive(Drop)]
+#[derive(Clone, Copy)]
 pub enum Scoring {
     Standard,
     Own(Weights),

@@ -9,7 +9,7 @@ ghost use Rattle.words.specs.Words.{blank, parting, blanks, word_size, small, sa
 ghost use Rattle.words.specs.Values.{number_of, before_point, behind_point, percent_of, hex_digit, hex_of};
 
 // A value that is read, or the number of the fault.
-#[derive(Drop)]
+#[derive(Clone, Copy)]
 pub enum Value {
     Is(u64),
     Bad(u32),
