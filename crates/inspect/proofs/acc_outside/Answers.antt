@@ -5,16 +5,16 @@ use Rattle.inspect.proofs.acc_outside.Goals as goal
 
 pub returns-then-x-2 : goal.returns-then-x-2
 unfolding acc_outside of_bits
-returns-then-x-2 c = rw (c.acc-1.given.1, c.if-x.true, c.if-x-2.true)
+returns-then-x-2 c = rw (c.in-Given.is, c.if-x.true, c.if-x-2.true)
 
 pub returns-else-x-2 : goal.returns-else-x-2
 unfolding acc_outside of_bits
-returns-else-x-2 c = rw (c.acc-1.given.1, c.if-x.true, c.if-x-2.false)
+returns-else-x-2 c = rw (c.in-Given.is, c.if-x.true, c.if-x-2.false)
 
 pub returns-else-x : goal.returns-else-x
 unfolding acc_outside of_bits
-returns-else-x c = rw (c.acc-1.given.1, c.if-x.false)
+returns-else-x c = rw (c.in-Given.is, c.if-x.false)
 
 pub returns-in-Absent : goal.returns-in-Absent
 unfolding acc_outside
-returns-in-Absent c = rw c.enum_told-1.given.1
+returns-in-Absent c = rw c.in-Absent.is

@@ -5,8 +5,8 @@ use Rattle.inspect.proofs.reached.Goals as goal
 
 pub returns-in-Passed : goal.returns-in-Passed
 unfolding shortened
-returns-in-Passed c = (rw c.holds-1.given.1 c.least.ensures, omega arith)
+returns-in-Passed c = (rw c.in-Passed.is c.least.ensures, omega arith)
 
 pub returns-in-InFull : goal.returns-in-InFull
 unfolding shortened
-returns-in-InFull c = (rw c.enum_told-1.given.1, omega arith)
+returns-in-InFull c = (rw c.in-InFull.is, omega arith)

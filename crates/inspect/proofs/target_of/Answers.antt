@@ -8,7 +8,7 @@ pub times-requires : goal.times-requires
 times-requires c = omega (arith, whole_within c.args.w c.args.total.0 c.requires.w_le_most_weight.0 c.requires.w_le_most_weight.1)
 
 pub rounded_product-requires : goal.rounded_product-requires
-rounded_product-requires c = record { t = c.requires.t_1; self_le_most_dividend = (c.requires.t_2, omega (arith, whole_within c.args.w c.args.total.0 c.requires.w_le_most_weight.0 c.requires.w_le_most_weight.1)) }
+rounded_product-requires c = record { t = (c.requires.t_1, c.requires.t_2); self_le_most_dividend = omega (arith, whole_within c.args.w c.args.total.0 c.requires.w_le_most_weight.0 c.requires.w_le_most_weight.1) }
 
 pub returns : goal.returns
 unfolding target

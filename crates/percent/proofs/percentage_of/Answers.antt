@@ -17,8 +17,7 @@ loop-k-init c = (omega arith, refl, refl)
 pub returns-in-Has : goal.returns-in-Has
 returns-in-Has c =
     let l = c.loop-k in
-    let n = c.n-1.given in
-    sym (from_here l.k c.args.bits (Has n.0.0 n.0.1.0) (omega arith) (sym c.percentage_with.ensures ∙ n.1)) ∙ l.invariant.2
+        sym (from_here l.k c.args.bits (Has c.in-Has.n c.in-Has.places) (omega arith) (sym c.percentage_with.ensures ∙ c.in-Has.is)) ∙ l.invariant.2
 
 pub overflow_mul-q : goal.overflow_mul-q
 overflow_mul-q c =
@@ -29,7 +28,7 @@ pub loop-k-preserved : goal.loop-k-preserved
 loop-k-preserved c =
     let l = c.loop-k in
     let p : 10 ^ (l.k + 1) ≡ 10 ^ l.k * 10 = rw (add-one l.k) (pow-suc 10 l.k) in
-    (omega arith, omega arith, sym (from_here l.k c.args.bits Missing (omega arith) (sym c.percentage_with.ensures ∙ c.enum_told-1.given.1)) ∙ l.invariant.2)
+    (omega arith, omega arith, sym (from_here l.k c.args.bits Missing (omega arith) (sym c.percentage_with.ensures ∙ c.in_default.is)) ∙ l.invariant.2)
 
 pub returns : goal.returns
 unfolding percent_from

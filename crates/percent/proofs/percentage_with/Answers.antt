@@ -3,72 +3,62 @@ use mathlib.Core.Bool.{false}
 use mathlib.Core.Path.{sym, ◌∙◌, subst}
 use native.Mathlib.Omega.{arith}
 use lib.Dec.{T}
-use lib.Ieee.{fin, le, lt, of_bits}
-use lib.IntN.{pos}
-use borrow.Author.Tests.{not-true, not-false}
-use Rattle.rounding.specs.Round.{product, zero64}
+use lib.Ieee.{of_bits}
+use Rattle.rounding.specs.Round.{product}
 use Rattle.words.proofs.Ratio.{in-float}
 use Rattle.percent.proofs.Found.{ten_to, not_from, not_below, too_large, other_bits, has_bits}
 use Rattle.percent.proofs.percentage_with.Goals as goal
 
 pub int_to_float-x : goal.int_to_float-x
 int_to_float-x c =
-    let s = c.before.before in
-    in-float s.args.q (omega (arith, ten_to s.args.k s.requires.0))
+        in-float c.args.q (omega (arith, ten_to c.args.k c.requires.0))
 
 pub returns-then-not-x : goal.returns-then-not-x
 unfolding of_bits
 returns-then-not-x c =
-    let s = c.before.before.before in
-    let f = c.f64_of in
-    let x = s.args in
-    sym (not_from x.bits x.k x.q f.result s.requires.0 s.requires.1 f.ensures (not-true _ c.if-not-x.true))
+        let f = c.f64_of in
+    let x = c.args in
+    sym (not_from x.bits x.k x.q f.result c.requires.0 c.requires.1 f.ensures c.if-not-x.true)
 
 pub returns-then-not-x-2 : goal.returns-then-not-x-2
 unfolding of_bits
 returns-then-not-x-2 c =
-    let s = c.before.before.before.before in
-    let f = c.f64_of in
-    let x = s.args in
-    sym (not_below x.bits x.k x.q f.result s.requires.0 s.requires.1 f.ensures (not-true _ c.if-not-x-2.true))
+        let f = c.f64_of in
+    let x = c.args in
+    sym (not_below x.bits x.k x.q f.result c.requires.0 c.requires.1 f.ensures c.if-not-x-2.true)
 
 pub round_whole-n-requires : goal.round_whole-n-requires
 unfolding of_bits
 round_whole-n-requires c =
     let x = product c.f64_of.result c.args.q in
-    record { fact_1 = subst T (sym (not-false (le zero64 x) c.if-not-x.false)) tt; fact_2 = subst T (sym (not-false (lt x (fin false 1 (pos 51))) c.if-not-x-2.false)) tt }
+    record { fact_1 = subst T (sym c.if-not-x.false) tt; fact_2 = subst T (sym c.if-not-x-2.false) tt }
 
 pub overflow_mul-q : goal.overflow_mul-q
 overflow_mul-q c =
-    let s = c.before.before.before.before.before in
-    omega (arith, ten_to s.args.k s.requires.0)
+        omega (arith, ten_to c.args.k c.requires.0)
 
 pub returns-then-n-q : goal.returns-then-n-q
 returns-then-n-q c =
-    let s = c.before.before.before.before.before.before in
-    let f = c.f64_of in
+        let f = c.f64_of in
     let n = c.round_whole-n in
-    let x = s.args in
-    sym (too_large x.bits x.k x.q f.result s.requires.0 s.requires.1 f.ensures n.result n.ensures (omega arith))
+    let x = c.args in
+    sym (too_large x.bits x.k x.q f.result c.requires.0 c.requires.1 f.ensures n.result n.ensures (omega arith))
 
 pub ratio_bits-requires : goal.ratio_bits-requires
 ratio_bits-requires c =
-    let s = c.before.before.before.before.before.before.before in
-    let p = ten_to s.args.k s.requires.0 in
+        let p = ten_to c.args.k c.requires.0 in
     record { p_bound = omega arith; q_nonzero = (omega arith, omega arith) }
 
 pub returns-then-ratio_bits-bits : goal.returns-then-ratio_bits-bits
 returns-then-ratio_bits-bits c =
-    let s = c.before.before.before.before.before.before.before.before in
-    let f = c.f64_of in
+        let f = c.f64_of in
     let n = c.round_whole-n in
-    let x = s.args in
-    sym (other_bits x.bits x.k x.q f.result s.requires.0 s.requires.1 f.ensures n.result n.ensures (λ e. c.if-ratio_bits-bits.true (c.ratio_bits.ensures ∙ e)))
+    let x = c.args in
+    sym (other_bits x.bits x.k x.q f.result c.requires.0 c.requires.1 f.ensures n.result n.ensures (λ e. c.if-ratio_bits-bits.true (c.ratio_bits.ensures ∙ e)))
 
 pub returns : goal.returns
 returns c =
-    let s = c.before.before.before.before.before.before.before.before in
-    let f = c.f64_of in
+        let f = c.f64_of in
     let n = c.round_whole-n in
-    let x = s.args in
-    sym (has_bits x.bits x.k x.q f.result s.requires.0 s.requires.1 f.ensures n.result n.ensures (omega arith) (sym c.ratio_bits.ensures ∙ c.if-ratio_bits-bits.false))
+    let x = c.args in
+    sym (has_bits x.bits x.k x.q f.result c.requires.0 c.requires.1 f.ensures n.result n.ensures (omega arith) (sym c.ratio_bits.ensures ∙ c.if-ratio_bits-bits.false))
