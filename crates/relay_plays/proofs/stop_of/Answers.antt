@@ -7,12 +7,9 @@ use borrow.Author.Tests.{lt-ltb, le-ltb}
 use Rattle.relay_laws.specs.Plays.{chart_count, plays_of}
 use Rattle.relay_laws.specs.Checks.{any_of, bad_count, numbers_for, over_chart, over_misses, relay_stop}
 use Rattle.relay_plays.proofs.stop_of.Goals as goal
-use Rattle.relay_plays.proofs.stop_of.Goals.{Else-bad_count, Else-over, Else-over-2, Else-room-plays}
+use Rattle.relay_plays.proofs.stop_of.Goals.{Else-over, Else-over-2, Else-room-plays}
 
 -- what the tests that were passed say
-count : (c : Else-bad_count) → bad_count (length c.args.plays.now) ≡ false
-count c = sym c.bad_count.ensures ∙ c.if-bad_count.false
-
 room : (c : Else-room-plays) → ltb c.args.room (numbers_for (chart_count c.args.plays.now)) ≡ false
 room c = le-ltb _ _ c.if-room-plays.false
 
@@ -28,23 +25,23 @@ returns-then-bad_count c = rw (sym c.bad_count.ensures ∙ c.if-bad_count.true)
 
 pub returns-then-room-plays : goal.returns-then-room-plays
 unfolding relay_stop
-returns-then-room-plays c = rw (count c.before, lt-ltb _ _ c.if-room-plays.true)
+returns-then-room-plays c = rw (sym c.bad_count.ensures ∙ c.if-bad_count.false, lt-ltb _ _ c.if-room-plays.true)
 
 pub returns-then-over : goal.returns-then-over
 unfolding relay_stop
-returns-then-over c = rw (count c.before.before.before, room c.before.before, sym c.over_of-over.ensures.0 ∙ c.if-over.true)
+returns-then-over c = rw (sym c.bad_count.ensures ∙ c.if-bad_count.false, room c.before.before, sym c.over_of-over.ensures.0 ∙ c.if-over.true)
 
 pub returns-then-over-2 : goal.returns-then-over-2
 unfolding relay_stop
 returns-then-over-2 c =
-    rw (count c.before.before.before.before, room c.before.before.before, charts c.before, sym c.over_of-over.ensures.1 ∙ c.if-over-2.true)
+    rw (sym c.bad_count.ensures ∙ c.if-bad_count.false, room c.before.before.before, charts c.before, sym c.over_of-over.ensures.1 ∙ c.if-over-2.true)
 
 pub returns-then-acc_outside : goal.returns-then-acc_outside
 unfolding relay_stop
 returns-then-acc_outside c =
-    rw (count c.before.before.before.before.before.before, room c.before.before.before.before.before, charts c.before.before.before, misses c.before.before, sym c.acc_outside.ensures ∙ c.if-acc_outside.true)
+    rw (sym c.bad_count.ensures ∙ c.if-bad_count.false, room c.before.before.before.before.before, charts c.before.before.before, misses c.before.before, sym c.acc_outside.ensures ∙ c.if-acc_outside.true)
 
 pub returns : goal.returns
 unfolding relay_stop
 returns c =
-    rw (count c.before.before.before.before.before.before, room c.before.before.before.before.before, charts c.before.before.before, misses c.before.before, sym c.acc_outside.ensures ∙ c.if-acc_outside.false)
+    rw (sym c.bad_count.ensures ∙ c.if-bad_count.false, room c.before.before.before.before.before, charts c.before.before.before, misses c.before.before, sym c.acc_outside.ensures ∙ c.if-acc_outside.false)
