@@ -15,7 +15,7 @@ use Rattle.nearest.proofs.best_of.Goals.{After-fresh-start, In-Two}
 
 -- the last arm
 two : (c : In-Two) → 2 ≤ lacking c.args.presence
-two c = let m = c.missing_of in two_missing (lacking c.args.presence) m.result m.ensures c.in-Two.in-Two-own.keys3
+two c = let m = c.missing_of in two_missing (lacking c.args.presence) m.result m.ensures c.in-Two.is
 
 untried : (c : After-fresh-start) → c.fresh-start.result.tried ≡ 0
 untried c = ap (λ (b : Best). b.tried) c.fresh-start.ensures

@@ -22,4 +22,4 @@ pub returns-in_default : goal.returns-in_default
 returns-in_default c =
     let n = lacking c.args.presence in
     let m = c.missing_of in
-    rw (sym c.less.ensures ∙ c.if-less.false, ne_eqb n 0 (λ z. omega (arith, some-missing n m.result m.ensures c.in_default.in_default-own.keys2)))
+    rw (sym c.less.ensures ∙ c.if-less.false, ne_eqb n 0 (λ z. omega (arith, some-missing n m.result m.ensures c.in_default.not-Nothing)))
