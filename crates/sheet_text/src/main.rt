@@ -1,4 +1,6 @@
 // The program: a sheet from standard input, its text to standard output.
-fn main() {
-    text_print::run();
+#![tactic(auto)]
+
+fn main(rt: HostRuntime) {
+    text_print::run(rt.stdin(), rt.stdout(), rt.stderr());
 }

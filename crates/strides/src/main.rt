@@ -1,4 +1,6 @@
 // The program: ten weights from standard input, their stride table to standard output. Its stored weights are the two standard sets.
-fn main() {
-    stride_print::run();
+#![tactic(auto)]
+
+fn main(rt: HostRuntime) {
+    stride_print::run(rt.stdin(), rt.stdout(), rt.stderr());
 }

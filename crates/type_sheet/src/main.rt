@@ -1,4 +1,6 @@
 // The program: a text from standard input, its sheet to standard output. Its stored text is the page's example.
-fn main() {
-    typed_print::make();
+#![tactic(auto)]
+
+fn main(rt: HostRuntime) {
+    typed_print::make(rt.stdin(), rt.stdout(), rt.stderr());
 }
