@@ -9,14 +9,23 @@ use streams::Input;
 const MOST_READ: usize = 4 + 256 * 8 + 4 + 5 * 4 + 4 + 1024 * 48 + 1;
 
 // Prints the sheet that the input gives, and answers whether all was read and written. A refused sheet is an answer, and no failure.
-pub fn print_from<R: Read, O: Write, E: Write>(input: &mut R, output: &mut O, errors: &mut E) -> bool {
+pub fn print_from<R: Read, O: Write, E: Write>(
+    input: &mut R,
+    output: &mut O,
+    errors: &mut E,
+) -> bool {
     let mut sheet = [0u8; MOST_READ];
     let Input::Bytes(n) = streams::read_all(input, &mut sheet) else {
         return streams::failed(errors, b"sheet: cannot read the sheet\n");
     };
     let mut text = [0u8; table::ROOM];
     let end = table::print_sheet(&sheet[..n], &mut text);
-    streams::write_text(output, errors, &text[..end], b"sheet: cannot write the table\n")
+    streams::write_text(
+        output,
+        errors,
+        &text[..end],
+        b"sheet: cannot write the table\n",
+    )
 }
 
 // The program: from standard input.

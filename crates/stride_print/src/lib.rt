@@ -9,14 +9,23 @@ use streams::Input;
 const MOST_READ: usize = 41;
 
 // Prints the table of the weights that the input gives, and answers whether all was read and written. A refusal is an answer, and no failure.
-pub fn print_from<R: Read, O: Write, E: Write>(input: &mut R, output: &mut O, errors: &mut E) -> bool {
+pub fn print_from<R: Read, O: Write, E: Write>(
+    input: &mut R,
+    output: &mut O,
+    errors: &mut E,
+) -> bool {
     let mut weights = [0u8; MOST_READ];
     let Input::Bytes(n) = streams::read_all(input, &mut weights) else {
         return streams::failed(errors, b"strides: cannot read the weights\n");
     };
     let mut text = [0u8; stride_text::ROOM];
     let end = stride_text::print_strides(&weights[..n], &mut text);
-    streams::write_text(output, errors, &text[..end], b"strides: cannot write the table\n")
+    streams::write_text(
+        output,
+        errors,
+        &text[..end],
+        b"strides: cannot write the table\n",
+    )
 }
 
 // The program: from standard input.

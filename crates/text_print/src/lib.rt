@@ -57,7 +57,11 @@ fn print_text<O: Write, E: Write>(output: &mut O, errors: &mut E, sheet: &[u8]) 
 }
 
 // Writes the text of the sheet that the input gives, and answers whether all was read and written. A sheet that is refused has no text: a failure.
-pub fn print_from<R: Read, O: Write, E: Write>(input: &mut R, output: &mut O, errors: &mut E) -> bool {
+pub fn print_from<R: Read, O: Write, E: Write>(
+    input: &mut R,
+    output: &mut O,
+    errors: &mut E,
+) -> bool {
     let mut sheet = [0u8; MOST_READ];
     let Input::Bytes(n) = streams::read_all(input, &mut sheet) else {
         return streams::failed(errors, b"sheet_text: cannot read the sheet\n");

@@ -15,7 +15,12 @@ const MOST_TEXT: usize = 262144;
 const TEXT_ROOM: usize = MOST_TEXT + 1;
 
 // Reads a text. A read that fails is told by the message, and so is a text that is too long.
-fn read_text<R: Read, E: Write>(input: &mut R, errors: &mut E, text: &mut [u8; TEXT_ROOM], message: &[u8]) -> Input
+fn read_text<R: Read, E: Write>(
+    input: &mut R,
+    errors: &mut E,
+    text: &mut [u8; TEXT_ROOM],
+    message: &[u8],
+) -> Input
     ensures { Within result text.new }
 {
     let Input::Bytes(n) = streams::read_all(input, text) else {
@@ -31,9 +36,18 @@ fn read_text<R: Read, E: Write>(input: &mut R, errors: &mut E, text: &mut [u8; T
 
 // Writes the sheet of the text that the input gives, and answers whether it was written. Of a text with a fault only that is told, on standard
 // error.
-pub fn make_from<R: Read, O: Write, E: Write>(input: &mut R, output: &mut O, errors: &mut E) -> bool {
+pub fn make_from<R: Read, O: Write, E: Write>(
+    input: &mut R,
+    output: &mut O,
+    errors: &mut E,
+) -> bool {
     let mut text = [0u8; TEXT_ROOM];
-    let Input::Bytes(n) = read_text(input, errors, &mut text, b"type_sheet: cannot read the text\n") else {
+    let Input::Bytes(n) = read_text(
+        input,
+        errors,
+        &mut text,
+        b"type_sheet: cannot read the text\n",
+    ) else {
         return false;
     };
     let mut sheet = [0u8; typed_answer::SHEET_ROOM];
@@ -50,15 +64,25 @@ pub fn make_from<R: Read, O: Write, E: Write>(input: &mut R, output: &mut O, err
 }
 
 // The same with what is printed of the sheet.
-pub fn print_from<R: Read, O: Write, E: Write>(input: &mut R, output: &mut O, errors: &mut E) -> bool {
+pub fn print_from<R: Read, O: Write, E: Write>(
+    input: &mut R,
+    output: &mut O,
+    errors: &mut E,
+) -> bool {
     let mut text = [0u8; TEXT_ROOM];
-    let Input::Bytes(n) = read_text(input, errors, &mut text, b"typed: cannot read the text\n") else {
+    let Input::Bytes(n) = read_text(input, errors, &mut text, b"typed: cannot read the text\n")
+    else {
         return false;
     };
     let mut table = [0u8; table::ROOM];
     let mut message = [0u8; fault_text::ROOM];
     match typed_answer::table_or_fault(&text[..n], &mut table, &mut message) {
-        Made::Bytes(end) => streams::write_text(output, errors, &table[..end], b"typed: cannot write the table\n"),
+        Made::Bytes(end) => streams::write_text(
+            output,
+            errors,
+            &table[..end],
+            b"typed: cannot write the table\n",
+        ),
         Made::Fault(end) => streams::failed(errors, &message[..end]),
     }
 }
