@@ -52,6 +52,14 @@ def table(root):
         t = re.sub(r"--[^\n]*", "", read(p)) if p.endswith(".antt") else re.sub(r"//[^\n]*", "", read(p))
         for n in set(re.findall(r"(?<!\.)(?<![^\s(){};,@«»\[\]:])" + NAME.pattern, t)):
             where[n].add(p)
+    own = set(os.listdir(os.path.join(root, "crates")))
+    lent_to = collections.defaultdict(set)
+    for p in texts(root, (".antt", ".rt")):
+        for m in re.finditer(r"(?m)^\s*(?:pub )?(?:ghost )?use ([^\s{;]+?)\.\{([^}]*)\}", read(p)):
+            steps = m[1].split(".")
+            if not (steps[0] == "Rattle" and steps[1] in own or steps[0] in ("goal", "tie")):
+                lent_to[p] |= {it.strip().split(" as ")[-1] for it in m[2].split(",")}
+    lent_by_any = set().union(*lent_to.values())
     for p in texts(root, (".antt",)):
         t = re.sub(r"--[^\n]*", "", read(p))
         if os.path.basename(p) in SKIP_FILES:
@@ -80,6 +88,10 @@ def table(root):
         met = {p for p in where[old] & where[new] if p.endswith(".antt")} if new in declared or new in out.values() else set()
         if met:
             print(f"stays: {old}, as {new} stands in {sorted(met)[0]}")
+            return
+        lent = [p for p in where[old] if new in lent_to[p]] or old in lent_by_any and [""]
+        if lent:
+            print(f"stays: {old}, as a library lends {new} or {old} to {lent[0]}")
             return
         out[old] = new
         where[new] |= where[old]

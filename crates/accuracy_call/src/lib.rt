@@ -1,4 +1,6 @@
 // `accuracy` with its parts as numbers.
+#![tactic(auto)]
+
 ghost use Rattle.std.specs.Prelude.{◌≡◌};
 ghost use Rattle.score_state.specs.Answer.{status_of};
 ghost use Rattle.score_state.specs.Lent.{six_counts};

@@ -1,4 +1,6 @@
 // A word, and the words of an accuracy, appended to a lent buffer: each call is told where its piece starts and answers where it ends.
+#![tactic(auto)]
+
 ghost use Rattle.std.specs.Prelude.{◌≡◌, [], ◌∷◌, ◌+◌, ◌*◌, ◌^◌, ◌≤◌, ◌<◌, length};
 ghost use Rattle.text.specs.Text.{Appended};
 ghost use Rattle.percent.specs.declared.Percentage.TheVariants.{Missing};

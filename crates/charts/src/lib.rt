@@ -1,4 +1,6 @@
 // The charts of a sheet: read into an array, and found by index in a lent slice of them.
+#![tactic(auto)]
+
 ghost use Rattle.std.specs.Prelude.{◌≡◌, ◌+◌, ◌*◌, ◌<◌, ◌≤◌, length, get_or, take};
 ghost use Rattle.charts.specs.Charts.{no_chart, charts_at};
 

@@ -1,6 +1,8 @@
 // closest.rs: the counts whose accuracy is closest to a given one, by the Rust's search. Its functions stand here in its order, but
 // for those that look at points alone (crate `closest_points`). Each loop runs over its first two values only: the others never
 // change the answer, as crate `closest_laws` proves.
+#![tactic(auto)]
+
 ghost use Rattle.std.specs.Prelude.{◌≡◌, List, [], ◌∷◌, ℕ, ◌+◌, ◌-◌, ◌*◌, ◌<◌, ◌≤◌, T};
 ghost use Rattle.std.proofs.Math.Option.{Option};
 ghost use Rattle.std.specs.Float.Ieee as Ieee;
@@ -24,14 +26,14 @@ use score_state::HitResults;
 use units::{Hits, Points};
 
 // What Closest answers: the six counts, or that two counts are missing and the given ones are over remain (12).
-#[derive(Drop)]
+#[derive(Clone, Copy)]
 pub enum Closest {
     Counts(HitResults),
     Overfull,
 }
 
 // The nine arguments that the Rust's functions hand on. A missing count is 0; presence says which are.
-#[derive(Drop)]
+#[derive(Clone, Copy)]
 pub struct Play {
     pub w320: u32,
     pub target_numerator: Points,
@@ -106,7 +108,7 @@ fn clamp_and_fill(play: Play) -> HitResults
 }
 
 // A count, and what is left of a pair to fill in.
-#[derive(Drop)]
+#[derive(Clone, Copy)]
 pub struct Filled {
     pub count: Hits,
     pub left: Pair,
@@ -187,7 +189,7 @@ fn optimize_two_missing(play: Play) -> Closest
 }
 
 // The weights of the two missing counts, the heavier first.
-#[derive(Drop)]
+#[derive(Clone, Copy)]
 pub struct Two(pub u32, pub u32);
 
 // The heavier stands at the lowest bit that presence lacks, the lighter at the highest.
@@ -203,7 +205,7 @@ fn missing_weights(play: Play) -> Two
 }
 
 // The best by f64 distance.
-#[derive(Drop)]
+#[derive(Clone, Copy)]
 pub struct Best {
     pub dist: f64,
     pub result: HitResults,

@@ -59,6 +59,7 @@ pub each-mem : {X A : Type 0} (xs : List X) (f : X → List A) (u : A) (x : X) �
 unfolding each
 each-mem (y ∷ ys) f u x (Memᴰ.head e) h = Memᴰ.append_left (each ys f) (subst (λ z. Memᴰ u (f z)) e h)
 each-mem (y ∷ ys) f u x (Memᴰ.tail m) h = Memᴰ.append_right (f y) (each-mem ys f u x m h)
+each-mem {X = X} {A = A} [] f u x x4 h = elim x4 [ ]
 
 -- ---- any test of two distances
 module _ {K A : Type 0} (less : K → K → Bool) where
@@ -131,6 +132,7 @@ module _ {K A : Type 0} (less : K → K → Bool) where
     scan-made t (u ∷ us) b (Memᴰ.head e) =
         scan-keeps t.dist us (offer less u b) (rw e (offer-made u b))
     scan-made t (u ∷ us) b (Memᴰ.tail m) = scan-made t us (offer less u b) m
+    scan-made t [] b x' = elim x' [ ]
 
     -- The second value offers a candidate t, and every later one only what is below nothing that t is not below.
     abbrev pub Enough : (ℕ → List (Kept K A)) → ℕ → ℕ → Type 0

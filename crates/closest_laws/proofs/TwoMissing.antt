@@ -83,6 +83,7 @@ module _ (w1 w2 T h P : ℕ) where
   tried_split t (Memᴰ.tail (Memᴰ.head e)) = (low, omega arith, e)
   tried_split t (Memᴰ.tail (Memᴰ.tail (Memᴰ.head e))) = (high, omega arith, e)
   tried_split t (Memᴰ.tail (Memᴰ.tail (Memᴰ.tail (Memᴰ.head e)))) = (h, le_refl h, e)
+  tried_split t (Memᴰ.tail (Memᴰ.tail (Memᴰ.tail (Memᴰ.tail x16)))) = elim x16 [ ]
 
   found_split : IsSplit found
   unfolding scan offer nearer split_at

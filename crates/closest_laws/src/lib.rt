@@ -1,1 +1,2 @@
 // The definition of Closest and its laws, for crate `closest`: no code stands here.
+#![tactic(auto)]

@@ -1,6 +1,8 @@
 // The parts of closest.rs that look for a number of points, in whole numbers: for two missing counts (`solve_two_vars`), for the last
 // three (`two_of_last`, `all_three`), and the values that n320 and n300 run through. Each loop runs over its first two values only:
 // the others never change the answer, as crate `closest_laws` proves.
+#![tactic(auto)]
+
 ghost use Rattle.std.specs.Prelude.{◌≡◌, [], ◌∷◌, ◌+◌, ◌-◌, ◌*◌, ◌/◌, ◌<◌, ◌≤◌};
 ghost use Rattle.std.proofs.Math.Option.{none};
 ghost use Rattle.rounding.specs.Quotient.{rounded_up};
@@ -14,22 +16,22 @@ ghost use Rattle.closest_points.specs.Code.{TwoOfLast, pair_view, two_view, last
 use units::{Hits, Points};
 
 // Counts of two judgements, the heavier first.
-#[derive(Drop)]
+#[derive(Clone, Copy)]
 pub struct Pair(pub Hits, pub Hits);
 
 // Counts of three judgements, the heaviest first; of two, with 0 for the third.
-#[derive(Drop)]
+#[derive(Clone, Copy)]
 pub struct Three(pub Hits, pub Hits, pub Hits);
 
 // A loop's first and last value.
-#[derive(Drop)]
+#[derive(Clone, Copy)]
 pub struct Span {
     pub lo: Hits,
     pub hi: Hits,
 }
 
 // The best two or three counts by whole distance; nothing is found at the start.
-#[derive(Drop)]
+#[derive(Clone, Copy)]
 pub struct Near {
     pub found: bool,
     pub dist: Points,

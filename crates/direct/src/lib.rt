@@ -1,4 +1,6 @@
 // The direct call with its parts as numbers, which C and the rows of a sheet share: no struct is handed over on the way.
+#![tactic(auto)]
+
 ghost use Rattle.std.specs.Prelude.{◌≡◌, ◌≤◌, cond, ltb, length, take};
 ghost use Rattle.score_state.specs.Answer.{answer_in};
 ghost use Rattle.score_state.specs.Lent.{six_counts, lent, handed};

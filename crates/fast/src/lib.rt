@@ -1,4 +1,6 @@
 // fast.rs: the given counts clamped, and the missing ones filled greedily towards the accuracy.
+#![tactic(auto)]
+
 ghost use Rattle.std.specs.Prelude.{◌≡◌, cond, ℕ, ◌+◌, ◌≤◌, ◌<◌, T, eqb};
 ghost use Rattle.std.specs.Float.Ieee as Ieee;
 ghost use Rattle.rounding.specs.Round.{zero64, one64};
@@ -17,14 +19,14 @@ use score_state::HitResults;
 use units::{Hits, Points};
 
 // Counts, and the hits that they leave.
-#[derive(Drop)]
+#[derive(Clone, Copy)]
 struct Partial {
     counts: HitResults,
     left: Hits,
 }
 
 // The running `delta`, the hits that no count takes, and the count that was taken last.
-#[derive(Drop)]
+#[derive(Clone, Copy)]
 struct Running {
     delta: Points,
     left: Hits,

@@ -1,6 +1,8 @@
 // The trait `HitResultGenerator`, recast: a call for each of the four generators, and the direct call, which takes the method as a
 // number. No call asks anything of its caller: each refuses by 7, 8, 10 and 11 in that order, then by its method's own numbers.
 // They have the standard weights; `methods::scored_by`, for a sheet's rows, takes any (document 02, L4).
+#![tactic(auto)]
+
 ghost use Rattle.std.specs.Prelude.{◌≡◌};
 ghost use Rattle.generate_laws.specs.Generate.{answer_by, generate_answer};
 ghost use Rattle.generated.specs.Generated.{generated_of};

@@ -1,4 +1,6 @@
 // ignore_acc.rs: the counts by priority alone; the accuracy plays no part.
+#![tactic(auto)]
+
 ghost use Rattle.std.specs.Prelude.{◌≡◌, ◌<◌, ◌≤◌};
 ghost use Rattle.units.specs.Limits.{most_hits};
 ghost use Rattle.score_state.specs.Points as Points;
@@ -14,28 +16,28 @@ use score_state::HitResults;
 use units::Hits;
 
 // A count that may be missing: `Option<u32>`.
-#[derive(Drop)]
+#[derive(Clone, Copy)]
 enum Count {
     Given(Hits),
     Missing,
 }
 
 // What a count was assigned, and what then remains.
-#[derive(Drop)]
+#[derive(Clone, Copy)]
 struct Assigned {
     count: Count,
     remain: Hits,
 }
 
 // What a count is filled with, and what then remains.
-#[derive(Drop)]
+#[derive(Clone, Copy)]
 struct Filled {
     count: Hits,
     remain: Hits,
 }
 
 // Five counts in priority order, and what still remains.
-#[derive(Drop)]
+#[derive(Clone, Copy)]
 struct Five {
     first: Hits,
     second: Hits,

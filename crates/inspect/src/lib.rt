@@ -1,4 +1,6 @@
 // inspect.rs: a query, its total hits, misses and remaining hits, the rounded target, and the checks that every method shares.
+#![tactic(auto)]
+
 ghost use Rattle.std.specs.Prelude.{◌≡◌, cond, ◌≤◌, ◌<◌, ◌*◌, T};
 ghost use Rattle.std.specs.Float.Ieee as Ieee;
 ghost use Rattle.rounding.specs.Round.{zero64, one64};
@@ -14,28 +16,28 @@ use score_state::HitResults;
 use units::{Hits, Points};
 
 // The attributes of a chart.
-#[derive(Drop)]
+#[derive(Clone, Copy)]
 pub struct Chart {
     pub n_objects: u32,
     pub n_hold_notes: u32,
 }
 
 // The accuracy is either given with its f64 or absent.
-#[derive(Drop)]
+#[derive(Clone, Copy)]
 pub enum Accuracy {
     Given(f64),
     Absent,
 }
 
 // The hold notes of a play: all that the chart has, or, where it was broken off, how many were passed.
-#[derive(Drop)]
+#[derive(Clone, Copy)]
 pub enum Holds {
     InFull,
     Passed(u32),
 }
 
 // A query. presence has document 01's bits, from n320 (1) to passed (128); acc's own bit is not looked at, `Accuracy` says it.
-#[derive(Drop)]
+#[derive(Clone, Copy)]
 pub struct Query {
     pub chart: Chart,
     pub method: u8,
@@ -94,7 +96,7 @@ pub fn acc_by(given: bool, acc: f64) -> Accuracy
 }
 
 // How many of the five counts are missing, as the generators tell it apart.
-#[derive(Drop)]
+#[derive(Clone, Copy)]
 pub enum Missing {
     Nothing,
     One,

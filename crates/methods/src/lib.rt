@@ -1,4 +1,6 @@
 // One query by its method: the checks that every method shares, then the generator of the method under any weights.
+#![tactic(auto)]
+
 ghost use Rattle.std.specs.Prelude.{◌≡◌, ◌<◌, T};
 ghost use Rattle.std.proofs.Math.Option.{some};
 ghost use Rattle.std.specs.Float.Ieee as Ieee;

@@ -1,4 +1,6 @@
 // Nearest (document 01; not the repository's): of all splits the one whose points lie nearest to the rounded target.
+#![tactic(auto)]
+
 ghost use Rattle.std.specs.Prelude.{◌≡◌, false, not, ◌&&◌, ◌||◌, [], ◌∷◌, eqb, ltb, suc, ◌+◌, ◌*◌, ◌<◌, ◌≤◌, ◌-◌};
 ghost use Rattle.std.proofs.Math.Option.{none};
 ghost use Rattle.units.specs.Limits.{most32, most_weight};
@@ -20,7 +22,7 @@ use units::{Hits, Points};
 use walk::{Best, Plan, Setting, Spread};
 
 // Five numbers of hits, from n320 to n50. The misses are no part of Nearest.
-#[derive(Drop)]
+#[derive(Clone, Copy)]
 pub struct Five {
     pub n320: Hits,
     pub n300: Hits,
@@ -30,14 +32,14 @@ pub struct Five {
 }
 
 // Five counts, and how many candidates the walk tried.
-#[derive(Drop)]
+#[derive(Clone, Copy)]
 pub struct Split {
     pub counts: Five,
     pub tried: u32,
 }
 
 // What Nearest answers: a split, or that there is none.
-#[derive(Drop)]
+#[derive(Clone, Copy)]
 pub enum Outcome {
     Found(Split),
     NoSplit,

@@ -84,6 +84,7 @@ settle-near T (x ∷ xs) s t (Memᴰ.tail m) = go (over s) refl (settle-near T x
         → (cond b s (settle T xs (offer T x s))).dist ≤ gap t.points T
     go true o i = omega (arith, over_zero s o)
     go false o i = i
+settle-near T [] s t x' = elim x' [ ]
 
 -- ---- With the middles set, no a-count is nearer than lo or lo + 1.
 

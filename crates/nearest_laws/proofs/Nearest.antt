@@ -25,10 +25,10 @@ pub neither_left : (x y : Bool) → (x || y) ≡ false → x ≡ false
 neither_left true y e = e
 neither_left false y e = refl
 
-pub and_true : (x y : Bool) → (x && y) ≡ true → x ≡ true
-and_true true y e = refl
-and_true false true e = e
-and_true false false e = e
+pub and-true : (x y : Bool) → (x && y) ≡ true → x ≡ true
+and-true true y e = refl
+and-true false true e = e
+and-true false false e = e
 
 pub stops-room : (gs : List (Option ℕ)) (remain : ℕ) → stops gs remain ≡ false → given_hits gs ≤ remain
 unfolding stops
@@ -122,7 +122,7 @@ none_there gs remain e xs s =
     (λ (o : ltb remain (given_hits gs) ≡ true). omega (arith, ltb-true remain (given_hits gs) o, given-le gs remain xs s))
     (λ (o : (all_given gs && not (eqb (given_hits gs) remain)) ≡ true).
     eqb-false (given_hits gs) remain (not-true (eqb (given_hits gs) remain) (both_true (all_given gs) _ o))
-    (given-all gs remain xs (and_true (all_given gs) _ o) s))
+    (given-all gs remain xs (and-true (all_given gs) _ o) s))
     (either (ltb remain (given_hits gs)) (all_given gs && not (eqb (given_hits gs) remain)) e)
 
 -- "status 14 exactly when .. no split exists"

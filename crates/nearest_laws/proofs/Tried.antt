@@ -16,7 +16,7 @@ use Rattle.nearest_laws.specs.Nearest.{Weighting, standard-weighting, fold, Foun
 use Rattle.nearest_laws.proofs.Near.{both_true}
 use Rattle.nearest_laws.proofs.Exchange.{stride-le}
 use Rattle.nearest_laws.proofs.Bound.{walk_bound}
-use Rattle.nearest_laws.proofs.Nearest.{weighting_falls, falls, answered, and_true}
+use Rattle.nearest_laws.proofs.Nearest.{weighting_falls, falls, answered, and-true}
 
 -- "at most 2 times the product of the q's"
 pub nearest-tried
@@ -45,7 +45,7 @@ unfolding every
 every_at zero t e [] l = e
 every_at zero t e (g ∷ gs) l = absurd (omega arith)
 every_at (suc n) t e [] l = absurd (omega arith)
-every_at (suc n) t e (none ∷ gs) l = every_at n (λ hs. t (none ∷ hs)) (and_true (every n (λ hs. t (none ∷ hs))) _ e) gs (omega arith)
+every_at (suc n) t e (none ∷ gs) l = every_at n (λ hs. t (none ∷ hs)) (and-true (every n (λ hs. t (none ∷ hs))) _ e) gs (omega arith)
 every_at (suc n) t e (some m ∷ gs) l = every_at n (λ hs. t (some 0 ∷ hs)) (both_true (every n (λ hs. t (none ∷ hs))) _ e) gs (omega arith)
 
 -- which weights are missing does not hang on the given numbers

@@ -11,7 +11,7 @@ use Rattle.score_state.specs.Points.{weights_of, Light}
 use Rattle.score_state.specs.declared.Weights.{Weights}
 use Rattle.nearest_laws.specs.Nearest.{Weighting, weighs}
 use Rattle.nearest_laws.proofs.Near.{both_true}
-use Rattle.nearest_laws.proofs.Nearest.{and_true}
+use Rattle.nearest_laws.proofs.Nearest.{and-true}
 
 pub weighed : (ws : List ℕ) → Weighting ws → weighs ws ≡ true
 unfolding weighs
@@ -27,10 +27,10 @@ passed a b c d e h =
     let t₃ = t₂ && ltb c b in
     let t₄ = t₃ && ltb d c in
     let t₅ = t₄ && ltb e d in
-    let h₅ = and_true t₅ (leb 1 e) h in
-    let h₄ = and_true t₄ (ltb e d) h₅ in
-    let h₃ = and_true t₃ (ltb d c) h₄ in
-    let h₂ = and_true t₂ (ltb c b) h₃ in
+    let h₅ = and-true t₅ (leb 1 e) h in
+    let h₄ = and-true t₄ (ltb e d) h₅ in
+    let h₃ = and-true t₃ (ltb d c) h₄ in
+    let h₂ = and-true t₂ (ltb c b) h₃ in
     record {
       n320 = a;
       n300 = b;
@@ -43,7 +43,7 @@ passed a b c d e h =
       good = ltb-true d c (both_true t₃ (ltb d c) h₄);
       ok = ltb-true e d (both_true t₄ (ltb e d) h₅);
       meh = leb-true 1 e (both_true t₅ (leb 1 e) h);
-      most = leb-true a 100 (and_true (leb a 100) (leb b a) h₂);
+      most = leb-true a 100 (and-true (leb a 100) (leb b a) h₂);
     }
 
 pub weighting : (ws : List ℕ) → weighs ws ≡ true → Weighting ws

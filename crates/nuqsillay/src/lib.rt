@@ -1,5 +1,7 @@
 // The calls that C and Rust programs link: numbers and slices only, each over a call of its own crate that has the same contract. Their header
 // is include/nuqsillay.h. holds_given is a bool there, one byte of 0 or 1 (`inspect::holds_of` says why it is none here).
+#![tactic(auto)]
+
 ghost use Rattle.std.specs.Prelude.{◌≡◌, length};
 ghost use Rattle.score_state.specs.Answer.{status_of};
 ghost use Rattle.score_state.specs.Lent.{six_counts, lent, answered, handed};

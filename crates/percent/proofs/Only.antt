@@ -4,7 +4,7 @@
 use mathlib.Core.Path.{◌≡◌, refl, sym, ap, ◌∙◌, subst}
 use mathlib.Core.Logic.{inl, inr}
 use Prim.Native.Nat.{ℕ, ◌+◌, ◌-◌, ◌*◌, ◌^◌, ◌≤◌, ◌<◌, zero-le}
-use native.Mathlib.Nat.{le_of_eq, le_trans, lt_of_lt_of_le, lt_of_le_of_lt, mul-pos, mul-one, one-mul, zero-mul, mul_right_comm, mul-le-mul_right, le_of_mul_le_mul_right, le-mul_of_pos_right, eq-zero-or-pos, add-mul, mul-mul-mul_comm}
+use native.Mathlib.Nat.{le_of_eq, le_trans, lt_of_lt_of_le, lt_of_le_of_lt, mul-pos, mul-one, one-mul, zero-mul, mul_right_comm, mul-le-mul_right, le_of_mul-le-mul_right, le-mul_of_pos_right, eq-zero-or-pos, add-mul, mul-mul-mul_comm}
 use native.Mathlib.Omega.{arith}
 use mathlib.Core.Bool.{true, false, true≢false}
 use lib.IntN.{pos}
@@ -17,7 +17,7 @@ use lib.Ieee.Nearest.{closest, closest_same}
 use lib.Ieee.Order.{drop, le_of_values}
 use lib.Ieee.Scale.{round_same, round_val, grid}
 use Rattle.rounding.specs.Round.{round_even, product, zero64}
-use Rattle.rounding.proofs.Floats.{of_int, lt-value}
+use Rattle.rounding.proofs.Floats.{of-int, lt-value}
 use Rattle.rounding.proofs.Near.{G, near, closest-at}
 use Rattle.percent.specs.Percent.{whole_of}
 
@@ -31,11 +31,11 @@ by_part x m W h k = (omega arith, omega arith)
 
 cancel : (a b c S : ℕ) → 0 < S → a * S * c ≤ b * S * c + b * S → a * c ≤ b * c + b
 cancel a b c S h k =
-    le_of_mul_le_mul_right (le_trans (le_of_eq (mul_right_comm a c S)) (le_trans k (le_of_eq (sym (add-mul (b * c) b S ∙ ap (λ (x : ℕ). x + b * S) (mul_right_comm b c S)))))) h
+    le_of_mul-le-mul_right (le_trans (le_of_eq (mul_right_comm a c S)) (le_trans k (le_of_eq (sym (add-mul (b * c) b S ∙ ap (λ (x : ℕ). x + b * S) (mul_right_comm b c S)))))) h
 
 cancel' : (a b c S : ℕ) → 0 < S → b * S * c ≤ a * S * c + b * S → b * c ≤ a * c + b
 cancel' a b c S h k =
-    le_of_mul_le_mul_right (le_trans (le_of_eq (mul_right_comm b c S)) (le_trans k (le_of_eq (sym (add-mul (a * c) b S ∙ ap (λ (x : ℕ). x + b * S) (mul_right_comm a c S)))))) h
+    le_of_mul-le-mul_right (le_trans (le_of_eq (mul_right_comm b c S)) (le_trans k (le_of_eq (sym (add-mul (a * c) b S ∙ ap (λ (x : ℕ). x + b * S) (mul_right_comm a c S)))))) h
 
 G-zero : (c : ℕ) → 0 < c → G 0 c ≡ 0
 G-zero c C =
@@ -172,7 +172,7 @@ module _ (p q : ℕ) (Q : 0 < q) (q-le : q ≤ 2 ^ 47) (p-le : p ≤ 2 ^ 50) whe
   x_value : HasValue (product (round binary64 false p q) q) false (grid binary64 (grid binary64 p q * q) unit) unit
   x_value =
       subst (λ (x : Float). HasValue x false (grid binary64 (grid binary64 p q * q) unit) unit)
-      (sym (product_value (round binary64 false p q) (of_int binary64 (pos q)) (grid binary64 p q) unit q (pow_pos (low binary64)) accuracy-value (of_int q (le_trans q-le (lit≤ tt)))))
+      (sym (product_value (round binary64 false p q) (of_int binary64 (pos q)) (grid binary64 p q) unit q (pow_pos (low binary64)) accuracy-value (of-int q (le_trans q-le (lit≤ tt)))))
       (round_val binary64 (grid binary64 p q * q) unit (lt_of_lt_of_le small.1 (lit≤ tt)))
 
   pub product_is : round_even (product (round binary64 false p q) q) ≡ p

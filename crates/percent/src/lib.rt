@@ -1,9 +1,11 @@
 // The percentage that an accuracy's text says: with as few digits behind the point as give the same f64.
+#![tactic(auto)]
+
 ghost use Rattle.std.specs.Prelude.{◌≡◌, ◌*◌, ◌^◌, ◌≤◌};
 ghost use Rattle.percent.specs.Percent.{percent_with, shortest};
 
 // A percentage by its digits without the point, and how many of them stand behind it; or none.
-#[derive(Drop)]
+#[derive(Clone, Copy)]
 pub enum Percentage {
     Has(u64, u32),
     Missing,

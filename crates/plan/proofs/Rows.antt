@@ -7,7 +7,7 @@ use lib.Dec.{eqb, T}
 use lib.ListN.{get_or}
 use borrow.Author.Tests.{eqb-true}
 use Rattle.score_state.specs.Points.{standard}
-use Rattle.nearest_laws.proofs.Nearest.{and_true}
+use Rattle.nearest_laws.proofs.Nearest.{and-true}
 use Rattle.nearest_laws.proofs.Near.{both_true}
 use Rattle.stride_rows.specs.Strides.{strides_of, pattern_of, row_of, stride_table}
 use Rattle.stride_rows.proofs.Table.{row-right}
@@ -19,7 +19,7 @@ same-is [] [] e = refl
 same-is [] (y ∷ ys) e = absurd (subst (λ (b : Bool). T b) (sym e) tt)
 same-is (x ∷ xs) [] e = absurd (subst (λ (b : Bool). T b) (sym e) tt)
 same-is (x ∷ xs) (y ∷ ys) e =
-    ap₂ (λ (z : ℕ) (zs : List ℕ). z ∷ zs) (eqb-true x y (and_true (eqb x y) (same xs ys) e)) (same-is xs ys (both_true (eqb x y) (same xs ys) e))
+    ap₂ (λ (z : ℕ) (zs : List ℕ). z ∷ zs) (eqb-true x y (and-true (eqb x y) (same xs ys) e)) (same-is xs ys (both_true (eqb x y) (same xs ys) e))
 
 pub row_of-weights
     : (classic : Bool) (p : ℕ) (ws vs : List ℕ) → same ws vs ≡ true → vs ≡ standard classic

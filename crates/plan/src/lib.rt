@@ -1,5 +1,7 @@
 // Nearest (document 01), steps 1 and 2: the fold of the classic pair, the heaviest and the lightest missing weight, and the middles
 // between them with their strides.
+#![tactic(auto)]
+
 ghost use Rattle.std.specs.Prelude.{◌≡◌, cond, eqb, ℕ, ◌<◌};
 ghost use Rattle.score_state.specs.Points.{weights_of};
 ghost use Rattle.score_state.specs.Given.{missing};

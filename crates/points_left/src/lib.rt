@@ -1,4 +1,6 @@
 // The points left over of a split (document 02, L1): T minus its points, an i32; the bits by which an answer holds it, and back.
+#![tactic(auto)]
+
 ghost use Rattle.std.specs.Prelude.{◌≡◌, ◌≤◌};
 ghost use Rattle.std.proofs.Math.IntN.{sub_ℕ};
 ghost use Rattle.points_left.specs.Left.{bits_of, signed_of, most31};

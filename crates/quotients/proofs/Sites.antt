@@ -18,7 +18,7 @@ use lib.Ieee.Nearest.{closest, closest_same, div_same}
 use lib.Ieee.Scale.{grid, finite, round_val, round_under}
 use Rattle.rounding.specs.Round.{zero64}
 use Rattle.rounding.specs.Quotient.{rounded_up}
-use Rattle.rounding.proofs.Floats.{of_int, zero_is}
+use Rattle.rounding.proofs.Floats.{of-int, zero_is}
 use Rattle.rounding.proofs.Distance.{ratio-is, not_under}
 use Rattle.quotients.specs.Steps.{floor, ceil, round_ties_even, max, as_u32, quotient, floor_u32, ceil_u32, ceil_as_u32, round_u32, or_zero}
 use Rattle.quotients.proofs.Sides.{alike, up_same, up_le, up_zero, closest-le, closest_zero}
@@ -197,7 +197,7 @@ module _ (b : ℕ) (B : 0 < b) (b-le : b ≤ 2 ^ 20) where
   unfolding or_zero of_int
   negative n =
       let x = quotient (negsuc n) (pos b) in
-      let h : minus x ≡ true = minus_div (of_int binary64 (negsuc n)) (of_int binary64 (pos b)) b (minus_round (suc n) 1) (of_int b b_53) in (
+      let h : minus x ≡ true = minus_div (of_int binary64 (negsuc n)) (of_int binary64 (pos b)) b (minus_round (suc n) 1) (of-int b b_53) in (
         minus_max (floor x) (minus_floor x h) ∙ sym (zero-div b),
         minus_max (ceil x) (minus_ceil x h) ∙ sym (up_zero b B),
         minus_zero (ceil x) (minus_ceil x h) ∙ sym (up_zero b B),

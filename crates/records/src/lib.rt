@@ -1,4 +1,6 @@
 // Records as numbers: a section's count of 4 bytes, a sheet's chart of 8 and its query's row of 48, and five weights of 20.
+#![tactic(auto)]
+
 ghost use Rattle.std.specs.Prelude.{◌≡◌, cond, ◌+◌, ◌*◌, ◌≤◌, eqb, length};
 ghost use Rattle.little_endian.specs.Bytes.{u32_at};
 ghost use Rattle.weighting.specs.declared.Scoring.TheVariants.{Standard, Own};
@@ -9,7 +11,7 @@ use score_state::{HitResults, Weights};
 use weighting::Scoring;
 
 // A query as it stands in the sheet: holds_given is byte 6, zero byte 7, acc the bits of its f64, holds_passed the last field.
-#[derive(Drop)]
+#[derive(Clone, Copy)]
 pub struct Row {
     pub chart: u32,
     pub method: u8,

@@ -1,4 +1,6 @@
 // Document 02, L9: one target over a relay of two to eight charts.
+#![tactic(auto)]
+
 ghost use Rattle.std.specs.Prelude.{◌≡◌, map, ◌+◌, ◌≤◌, T, length};
 ghost use Rattle.std.specs.Float.Ieee as Ieee;
 ghost use Rattle.rounding.specs.Round.{zero64, one64};
@@ -20,7 +22,7 @@ use nearest::Split;
 use units::Hits;
 
 // The total hits of all charts, and what remains of them.
-#[derive(Drop)]
+#[derive(Clone, Copy)]
 struct Pool {
     total: Hits,
     remain: Hits,

@@ -1,4 +1,6 @@
 // The call for a relay, with its accuracy as a flag and a number.
+#![tactic(auto)]
+
 ghost use Rattle.std.specs.Prelude.{◌≡◌, length};
 ghost use Rattle.score_state.specs.Lent.{lent, answered};
 ghost use Rattle.inspect.specs.Inspect.{acc_of, acc_by};

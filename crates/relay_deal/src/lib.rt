@@ -1,4 +1,6 @@
 // The pool of a relay dealt to its charts in order, best judgement first.
+#![tactic(auto)]
+
 ghost use Rattle.std.specs.Prelude.{◌≡◌, [], ◌∷◌, ◌++◌, map, ◌+◌, ◌-◌, ◌≤◌, ◌<◌, min, length};
 ghost use Rattle.lists.specs.Lists.{put};
 ghost use Rattle.nearest.specs.Outcome.{five_of};
@@ -11,7 +13,7 @@ use nearest::Five;
 use units::Hits;
 
 // What a chart with so much room takes of a count, what it leaves, and the room that it has then.
-#[derive(Drop)]
+#[derive(Clone, Copy)]
 struct Share {
     taken: Hits,
     left: Hits,
@@ -42,7 +44,7 @@ fn five(n320: Hits, n300: Hits, n200: Hits, n100: Hits, n50: Hits) -> Five
 }
 
 // What a chart is dealt, and what is left for those behind it.
-#[derive(Drop)]
+#[derive(Clone, Copy)]
 struct Dealt {
     counts: Five,
     left: Five,

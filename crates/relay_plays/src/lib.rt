@@ -1,4 +1,6 @@
 // The charts of a relay as they are handed over, three numbers each (objects, holds, misses), and the checks that come before its pool.
+#![tactic(auto)]
+
 ghost use Rattle.std.specs.Prelude.{◌≡◌, ◌||◌, ◌<◌};
 ghost use Rattle.inspect.specs.Inspect.{acc_of};
 ghost use Rattle.relay_laws.specs.Plays.{play_at, chart_count, plays_of, play_query};
@@ -34,7 +36,7 @@ pub fn play_query(classic: bool, plays: &[u32], k: usize) -> Query
 }
 
 // Whether 7 stops one of the charts, and whether 10 does.
-#[derive(Drop)]
+#[derive(Clone, Copy)]
 struct Over {
     chart: bool,
     misses: bool,

@@ -148,7 +148,7 @@ fn agrees(s: &[u8], at: usize) -> bool
     }
 }
 
-#[derive(Drop)]
+#[derive(Clone, Copy)]
 struct Tally {
     run: u32,
     differ: u32,

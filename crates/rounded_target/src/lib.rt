@@ -1,4 +1,6 @@
 // The rounded target of a query, which is filed beside its split.
+#![tactic(auto)]
+
 ghost use Rattle.std.specs.Prelude.{◌≡◌};
 ghost use Rattle.score_state.specs.Lent.{lent, handed};
 ghost use Rattle.rounded_target.specs.Answers.{answer_of, target_answer, target_query};
@@ -7,7 +9,7 @@ use inspect::{Accuracy, Chart, Query};
 use units::{Hits, Points};
 
 // What is filed beside a split.
-#[derive(Drop)]
+#[derive(Clone, Copy)]
 pub struct RoundedTarget {
     pub total_hits: Hits,
     pub misses: Hits,
@@ -16,7 +18,7 @@ pub struct RoundedTarget {
 }
 
 // The rounded target with the hits it is of, or the number of the check that stops the query.
-#[derive(Drop)]
+#[derive(Clone, Copy)]
 pub enum TargetAnswer {
     Is(RoundedTarget),
     Refused(u32),

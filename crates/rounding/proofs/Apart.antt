@@ -1,7 +1,7 @@
 -- From the target up, more points are never nearer: `distance` of two ratios, as floats. Assumes nothing.
 use mathlib.Core.Path.{◌≡◌, refl, sym, ap, ◌∙◌, subst}
 use Prim.Native.Nat.{ℕ, ◌-◌, ◌*◌, ◌^◌, ◌≤◌, ◌<◌, zero-le}
-use native.Mathlib.Nat.{le_of_mul_le_mul_right, mul-le-mul_right, le_of_lt, le_of_eq, le_trans, lt_of_lt_of_le, lt_of_le_of_lt, mul-pos, mul-one, zero-mul, mul_comm, mul_assoc, mul_right_comm, mul-sub, sub-le, le-mul_of_pos_right}
+use native.Mathlib.Nat.{le_of_mul-le-mul_right, mul-le-mul_right, le_of_lt, le_of_eq, le_trans, lt_of_lt_of_le, lt_of_le_of_lt, mul-pos, mul-one, zero-mul, mul_comm, mul_assoc, mul_right_comm, mul-sub, sub-le, le-mul_of_pos_right}
 use native.Mathlib.Omega.{arith}
 use mathlib.Core.Bool.{Bool, true, false, cond, true≢false}
 use borrow.Author.Tests.{lt-ltb, le-ltb, ltb-true}
@@ -27,7 +27,7 @@ minus_same A B C a b w h k =
     ∙ sym (mul-sub C a b) ∙ mul_comm C (a - b)
 
 not_less : (A B C a b w : ℕ) → 0 < w → A * w ≡ a * C → B * w ≡ b * C → b ≤ a → B ≤ A
-not_less A B C a b w W h k l = le_of_mul_le_mul_right (le_trans (le_of_eq k) (le_trans (mul-le-mul_right C l) (le_of_eq (sym h)))) W
+not_less A B C a b w W h k l = le_of_mul-le-mul_right (le_trans (le_of_eq k) (le_trans (mul-le-mul_right C l) (le_of_eq (sym h)))) W
 
 sub-value : (x y : Float) (a b w : ℕ) → 0 < w → b ≤ a → HasValue x false a w → HasValue y false b w → sub binary64 x y ≡ round binary64 false (a - b) w
 unfolding sub sum
@@ -90,7 +90,7 @@ module _ (q : ℕ) (Q : 0 < q) (q-le : q ≤ 2 ^ 53) where
 
   share_le : (p r : ℕ) → p ≤ r → r < 2 ^ 31 → share p ≤ share r
   share_le p r l R =
-      le_of_mul_le_mul_right
+      le_of_mul-le-mul_right
       (le-value (round binary64 false p q) (round binary64 false r q) (share p) one_unit (share r) one_unit (pow_pos (low binary64)) (pow_pos (low binary64))
       (round_val binary64 p q (round_under binary64 p q (rounded_finite p q (lt_of_le_of_lt l R) Q)))
       (round_val binary64 r q (round_under binary64 r q (rounded_finite r q R Q)))
@@ -138,7 +138,7 @@ module _ (q : ℕ) (Q : 0 < q) (q-le : q ≤ 2 ^ 53) where
         let k : lt (over r) z ≡ true = ap (λ (d : Float). lt d z) (sym (distance_is r (le_trans l m) R)) ∙ h in
         ap (λ (d : Float). lt d z) (distance_is p l P)
         ∙ below_too (over p) (over r) z (grid binary64 (share p - share t) one_unit) (grid binary64 (share r - share t) one_unit) one_unit (pow_pos (low binary64)) (over-value p P) (over-value r R)
-        (le_of_mul_le_mul_right
+        (le_of_mul-le-mul_right
         (le-value (over p) (over r) (grid binary64 (share p - share t) one_unit) one_unit (grid binary64 (share r - share t) one_unit) one_unit (pow_pos (low binary64)) (pow_pos (low binary64)) (over-value p P) (over-value r R)
         (round_mono binary64 (share p - share t) one_unit (share r - share t) one_unit (pow_pos (low binary64)) (pow_pos (low binary64)) (mul-le-mul_right one_unit (less_minus (share p) (share r) (share t) (share_le p r m R)))))
         (pow_pos (low binary64)))

@@ -13,7 +13,7 @@ use lib.Ieee.Positive.{positive_of_value}
 use lib.Ieee.Scale.{round_same, finite}
 use Rattle.rounding.specs.Round.{zero64}
 use Rattle.rounding.specs.Distance.{distance, ratio}
-use Rattle.rounding.proofs.Floats.{of_int, zero_is, rounded_within}
+use Rattle.rounding.proofs.Floats.{of-int, zero_is, rounded_within}
 
 -- ---- a distance is never below zero
 pub not_under : (a e : ℕ) → ltb (a * 1) (0 * 1 * e) ≡ false
@@ -80,7 +80,7 @@ ratio_of (fin false m e) (fin false n g) p q Q h k =
     ∙ round_same binary64 false (m * up e * down g) (n * up g * down e) p q (mul-pos (mul-pos N (up_pos g)) (down_pos e)) Q (cross (m * up e) (down e) (n * up g) (down g) p q h.1 k.1)
 
 pub ratio-is : (p q : ℕ) → p ≤ 2 ^ 53 → 0 < q → q ≤ 2 ^ 53 → ratio p q ≡ round binary64 false p q
-ratio-is p q P Z Q = ratio_of (of_int binary64 (pos p)) (of_int binary64 (pos q)) p q Z (of_int p P) (of_int q Q)
+ratio-is p q P Z Q = ratio_of (of_int binary64 (pos p)) (of_int binary64 (pos q)) p q Z (of-int p P) (of-int q Q)
 
 pub finite_of : (z : Float) → T (le zero64 z) → T (lt z (fin false 1 (pos 31))) → T (finite z)
 finite_of nan h k = unfold le in h

@@ -74,9 +74,9 @@ lt-value (fin false m e) nan a c b d C D h k = absurd k
 lt-value (fin false m e) (inf s) a c b d C D h k = absurd k
 
 -- ---- a whole number as an f64
-pub of_int : (n : ℕ) → n ≤ 2 ^ 53 → HasValue (of_int binary64 (pos n)) false n 1
+pub of-int : (n : ℕ) → n ≤ 2 ^ 53 → HasValue (of_int binary64 (pos n)) false n 1
 unfolding of_int
-of_int n h = round_whole binary64 false n h
+of-int n h = round_whole binary64 false n h
 
 -- ---- what a value from -0 up gives
 -- what `le` says of two numbers that are not negative
@@ -176,4 +176,4 @@ share (fin false m e) (fin false q g) n N v h k =
     (share_le (m * up e) (down e) n (q * up g) (down g) (le-value (fin false m e) (fin false 1 (pos 0)) (m * up e) (down e) 1 1 (down_pos e) (lit< tt) (refl, refl) (refl, refl) k) v.1)
 
 pub product_within : (acc : Float) (n : ℕ) → n < 2 ^ 31 → T (le zero64 acc) → T (le acc (fin false 1 (pos 0))) → Within (mul binary64 acc (of_int binary64 (pos n))) n
-product_within acc n N h k = share acc (of_int binary64 (pos n)) n N (of_int n (le_of_lt (lt_of_lt_of_le N (lit≤ tt)))) h k
+product_within acc n N h k = share acc (of_int binary64 (pos n)) n N (of-int n (le_of_lt (lt_of_lt_of_le N (lit≤ tt)))) h k

@@ -1,5 +1,7 @@
 // f64 operations of the Rust that Rattle lacks, written out: `round_ties_even`, the rounded product, one division of whole
 // numbers, and the distance of two accuracies. For the crates above; the tests of acc's range stand in `inspect`.
+#![tactic(auto)]
+
 ghost use Rattle.std.specs.Prelude.{◌≡◌, false, ◌+◌, ◌≤◌, ◌<◌, ◌^◌, T, pos};
 ghost use Rattle.std.specs.Float.Ieee as Ieee;
 ghost use Rattle.std.specs.Float.{fin};

@@ -1,4 +1,6 @@
 // The checks of a row: 7 to 9 and 19, and where the chart that it names stands (6).
+#![tactic(auto)]
+
 ghost use Rattle.std.specs.Prelude.{◌≡◌, cond, ◌<◌, ◌≤◌, ltb};
 ghost use Rattle.row_checks.specs.RowChecks.{left_over, holds_left, fields_left, unknown_row, own_unfit, row_stop};
 

@@ -1,4 +1,6 @@
 // The line that is printed of a row's answer, appended to a lent buffer: each call is told where its piece starts and answers where it ends.
+#![tactic(auto)]
+
 ghost use Rattle.std.specs.Prelude.{◌+◌, ◌*◌, ◌≤◌, ◌<◌, length};
 ghost use Rattle.text.specs.Text.{Appended};
 ghost use Rattle.row_text.specs.RowText.{field_text, fields_text, left_text, row_text};

@@ -1,4 +1,6 @@
 // A row of a sheet: its answer, and the answer written.
+#![tactic(auto)]
+
 ghost use Rattle.std.specs.Prelude.{◌≡◌, ◌+◌, ◌≤◌, true, ltb, length};
 ghost use Rattle.lists.specs.Lists.{put};
 ghost use Rattle.weighting.specs.Scoring.{allowed};

@@ -1,4 +1,6 @@
 // score_state.rs: the six judgement counts, their points and their accuracy.
+#![tactic(auto)]
+
 ghost use Rattle.std.specs.Prelude.{◌≡◌, ◌*◌, ◌≤◌};
 ghost use Rattle.units.specs.Limits.{most_weight};
 ghost use Rattle.score_state.specs.Points.{standard, points, weights_of, counts_of, total_hits, perfect_weight, Light};
@@ -7,7 +9,7 @@ ghost use Rattle.score_state.specs.Accuracy.{accuracy_of, answer_of, accuracy_an
 use units::{Hits, Points};
 
 // The six judgement counts: `ManiaHitResults`.
-#[derive(Drop)]
+#[derive(Clone, Copy)]
 pub struct HitResults {
     pub n320: u32,
     pub n300: u32,
@@ -34,7 +36,7 @@ impl HitResults {
 }
 
 // The weights of the five judgements; a miss weighs 0.
-#[derive(Drop)]
+#[derive(Clone, Copy)]
 pub struct Weights {
     pub n320: u32,
     pub n300: u32,
@@ -44,7 +46,7 @@ pub struct Weights {
 }
 
 // What `accuracy` answers: the accuracy, or that a count is over 1,000,000 (10).
-#[derive(Drop)]
+#[derive(Clone, Copy)]
 pub enum AccuracyAnswer {
     Is(f64),
     OverCap,

@@ -1,4 +1,6 @@
 // The call that works a sheet, with its totals as numbers.
+#![tactic(auto)]
+
 ghost use Rattle.std.specs.Prelude.{◌≡◌, ◌++◌, ◌≤◌, length, drop};
 ghost use Rattle.totals.specs.Totals.{seven_of};
 ghost use Rattle.sheet_call.specs.SheetLent.{sheet_lent, sheet_handed};

@@ -1,4 +1,6 @@
 // The lines of a sheet's text, appended to a lent buffer: each call is told where its piece starts and answers where it ends.
+#![tactic(auto)]
+
 ghost use Rattle.std.specs.Prelude.{[], ◌∷◌, ◌+◌, ◌≤◌, length};
 ghost use Rattle.text.specs.Text.{decimal_text, Appended};
 ghost use Rattle.accuracy_text.specs.AccuracyText.{spaced};

@@ -1,4 +1,6 @@
 // The call that works a sheet.
+#![tactic(auto)]
+
 ghost use Rattle.std.specs.Prelude.{◌≡◌, ◌+◌, ◌*◌, ◌≤◌, length};
 ghost use Rattle.little_endian.specs.Bytes.{u32_at};
 ghost use Rattle.sheets_laws.specs.Sheets.{charts_stop, scoring_stop, queries_stop, sheet_stop, sheet_of};
@@ -9,7 +11,7 @@ ghost use Rattle.sheets.specs.Worked.{worked_of, WhenWorked, TotalsWritten};
 use totals::Totals;
 
 // How many queries were worked and their totals, or the number of the check that stops the sheet.
-#[derive(Drop)]
+#[derive(Clone, Copy)]
 pub enum SheetAnswer {
     Worked(u32, Totals),
     Refused(u32),

@@ -1,4 +1,6 @@
 // The stride table with its weights as numbers.
+#![tactic(auto)]
+
 ghost use Rattle.std.specs.Prelude.{◌≡◌, length};
 ghost use Rattle.stride_table.specs.StrideTable.{table_status, table_out};
 ghost use Rattle.stride_call.specs.FiveWeights.{five_weights};

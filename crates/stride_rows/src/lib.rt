@@ -1,4 +1,6 @@
 // Document 02, L5: the strides of Nearest's walk for the two standard weightings, read and not worked out.
+#![tactic(auto)]
+
 ghost use Rattle.std.specs.Prelude.{◌≡◌, [], get_or};
 ghost use Rattle.stride_rows.specs.Strides.{row_of, stride_table};
 

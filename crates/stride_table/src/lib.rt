@@ -1,4 +1,6 @@
 // Document 02, L6: the stride table of any two weightings, worked out.
+#![tactic(auto)]
+
 ghost use Rattle.std.specs.Prelude.{◌≡◌, true, false, cond, ◌++◌, ◌+◌, ◌≤◌, ltb, length, take, drop};
 ghost use Rattle.lists.specs.Lists.{put};
 ghost use Rattle.score_state.specs.Points.{weights_of, standard};

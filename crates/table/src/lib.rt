@@ -1,4 +1,6 @@
 // What the program `sheet` prints, as bytes in a lent buffer. Each piece is told where it starts and answers where it ends.
+#![tactic(auto)]
+
 ghost use Rattle.std.specs.Prelude.{◌≡◌, ◌+◌, ◌*◌, ◌≤◌, length, take, drop};
 ghost use Rattle.io.specs.Counts.{IsPrefixLen};
 ghost use Rattle.lists.specs.Lists.{joined};

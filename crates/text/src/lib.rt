@@ -1,4 +1,6 @@
 // Text appended to a lent buffer, piece by piece: each call is told where its piece starts and answers where it ends.
+#![tactic(auto)]
+
 ghost use Rattle.std.specs.Prelude.{[], ◌∷◌, ◌+◌, ◌<◌, ◌≤◌, length};
 ghost use Rattle.text.specs.Text.{decimal_text, signed_text, refused_text, Appended};
 

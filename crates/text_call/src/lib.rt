@@ -1,4 +1,6 @@
 // The text of a sheet, told in numbers, for C.
+#![tactic(auto)]
+
 ghost use Rattle.std.specs.Prelude.{◌≡◌};
 ghost use Rattle.typed_call.specs.Told.{lent_by};
 ghost use Rattle.text_call.specs.TextTold.{text_told};

@@ -1,4 +1,6 @@
 // The closing line of a sheet's table, appended to a lent buffer: `total` and the seven numbers.
+#![tactic(auto)]
+
 ghost use Rattle.std.specs.Prelude.{◌∷◌, ◌+◌, ◌≤◌, length};
 ghost use Rattle.lists.specs.Lists.{joined};
 ghost use Rattle.text.specs.Text.{decimal_text, Appended};

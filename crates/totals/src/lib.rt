@@ -1,10 +1,12 @@
 // The seven numbers of a sheet's closing line, taken over the answers that its output holds.
+#![tactic(auto)]
+
 ghost use Rattle.std.specs.Prelude.{◌≡◌, ◌+◌, ◌*◌, ◌≤◌, ◌<◌, length};
 ghost use Rattle.little_endian.specs.Bytes.{u32_at};
 ghost use Rattle.totals.specs.Totals.{totals_over, seven_of, Within};
 
 // How many rows have status 0, and the sums of their six counts.
-#[derive(Drop)]
+#[derive(Clone, Copy)]
 pub struct Totals {
     pub rows: u64,
     pub n320: u64,

@@ -1,4 +1,6 @@
 // What a typed sheet gives, as bytes in lent buffers: the sheet, or what is printed of it; or how its first fault is told.
+#![tactic(auto)]
+
 ghost use Rattle.typed_answer.specs.Answers.{sheet_answer, table_answer, Makes};
 
 use typed_sheet::Typed;
@@ -6,7 +8,7 @@ use typed_sheet::Typed;
 // A full sheet with own weights.
 pub const SHEET_ROOM: usize = 4 + 256 * 8 + 4 + 5 * 4 + 4 + 1024 * 48;
 
-#[derive(Drop)]
+#[derive(Clone, Copy)]
 pub enum Made {
     // So many bytes at the start of the first buffer.
     Bytes(usize),

@@ -1,4 +1,6 @@
 // The sheet of a text, told in numbers, for C.
+#![tactic(auto)]
+
 ghost use Rattle.std.specs.Prelude.{◌≡◌, ◌∷◌, ◌≤◌, length, drop};
 ghost use Rattle.typed_call.specs.Told.{lent_by, sheet_told};
 

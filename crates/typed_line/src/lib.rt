@@ -1,4 +1,6 @@
 // A line of a typed sheet, read word by word into a struct.
+#![tactic(auto)]
+
 ghost use Rattle.std.specs.Prelude.{◌≡◌, ◌+◌, ◌*◌, ◌<◌, ◌≤◌, length};
 ghost use Rattle.words.specs.Lines.{part};
 ghost use Rattle.typed_line.specs.Keywords.{kind_of, method_of, option_of};
@@ -7,7 +9,7 @@ ghost use Rattle.typed_line.specs.Line.{fresh, noted, told, begun, awaits, store
 use words::Value;
 
 // What is known of a line after some of its words: specs/Line.antt says of each field what it is.
-#[derive(Drop)]
+#[derive(Clone, Copy)]
 pub struct Line {
     pub fault: u32,
     pub at: usize,

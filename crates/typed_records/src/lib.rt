@@ -1,4 +1,6 @@
 // The record of a line of a typed sheet, put into a lent buffer: each call is told where its bytes start and answers where they end.
+#![tactic(auto)]
+
 ghost use Rattle.std.specs.Prelude.{◌≡◌, ◌+◌, ◌*◌, ◌%◌, ◌≤◌, ◌<◌, length};
 ghost use Rattle.little_endian.specs.Bytes.{bytes4};
 ghost use Rattle.text.specs.Text.{Appended};

@@ -1,4 +1,6 @@
 // The sheet of a text that is typed.
+#![tactic(auto)]
+
 ghost use Rattle.std.specs.Prelude.{◌≡◌, ◌+◌, ◌*◌, ◌≤◌, length};
 ghost use Rattle.text.specs.Text.{Appended};
 ghost use Rattle.words.specs.Lines.{lines};
@@ -7,7 +9,7 @@ ghost use Rattle.typed_sheet.specs.Typed.{stopped, counted, tallies, tally_of, r
 use typed_line::Line;
 
 // What is known after some lines: specs/Typed.antt says of each field what it is.
-#[derive(Drop)]
+#[derive(Clone, Copy)]
 pub struct Tally {
     pub fault: u32,
     pub line: usize,
@@ -18,7 +20,7 @@ pub struct Tally {
     pub plays: usize,
 }
 
-#[derive(Drop)]
+#[derive(Clone, Copy)]
 pub enum Typed {
     // The sheet's length.
     Sheet(usize),

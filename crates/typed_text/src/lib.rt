@@ -1,4 +1,6 @@
 // The text of a sheet: what is typed to get it.
+#![tactic(auto)]
+
 ghost use Rattle.std.specs.Prelude.{◌≡◌, ◌+◌, ◌≤◌, ◌<◌, length};
 ghost use Rattle.lists.specs.Lists.{joined};
 ghost use Rattle.text.specs.Text.{Appended};
@@ -7,7 +9,7 @@ ghost use Rattle.typed_text.specs.SheetText.{stop_of, row_fault, fault_at, first
 use records::Row;
 
 // Where a sheet's records are: specs/SheetText.antt says of each field what it is.
-#[derive(Drop)]
+#[derive(Clone, Copy)]
 pub struct Places {
     pub charts: usize,
     pub own: usize,
@@ -16,7 +18,7 @@ pub struct Places {
     pub queries: usize,
 }
 
-#[derive(Drop)]
+#[derive(Clone, Copy)]
 pub enum SheetText {
     // The text's length.
     Text(usize),

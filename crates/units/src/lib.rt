@@ -1,4 +1,6 @@
 // A note count and a score sum: document 01's `remain_hits` and `remain_score`, as two structs of which neither can stand for the other.
+#![tactic(auto)]
+
 ghost use Rattle.std.specs.Prelude.{◌≡◌, ◌+◌, ◌-◌, ◌*◌, ◌/◌, ◌%◌, ◌<◌, ◌≤◌, min, T, ltb, eqb, pos};
 ghost use Rattle.std.specs.Float.Ieee as Ieee;
 ghost use Rattle.std.specs.Float.{binary64};
@@ -12,15 +14,15 @@ ghost use Rattle.units.specs.Gap.{gap};
 
 // A number of notes; no number of points. Code above this crate adds, subtracts and compares notes and points by the methods of
 // these two structs, so that neither can stand for the other.
-#[derive(Drop)]
+#[derive(Clone, Copy)]
 pub struct Hits(pub u32);
 
 // A number of points; no number of notes.
-#[derive(Drop)]
+#[derive(Clone, Copy)]
 pub struct Points(pub u32);
 
 // A whole division of points by a step of as many points: how often the step fits, and what is left over.
-#[derive(Drop)]
+#[derive(Clone, Copy)]
 pub struct Steps {
     pub count: Hits,
     pub rest: Points,

@@ -1,4 +1,6 @@
 // Nearest's walk (document 01, steps 2 to 4): both candidates of every setting of the middles, and the first nearest of them.
+#![tactic(auto)]
+
 ghost use Rattle.std.specs.Prelude.{◌≡◌, false, ℕ, suc, ◌+◌, ◌*◌, ◌<◌, ◌≤◌, ◌-◌, min};
 ghost use Rattle.units.specs.Limits.{most32};
 ghost use Rattle.units.specs.Gap.{gap};
@@ -9,14 +11,14 @@ ghost use Rattle.walk.specs.Code.{view, fresh, try_of, trial_of, set_of, both_of
 use units::{Hits, Points};
 
 // A middle: its weight and its q. A place that is no middle has weight 0 and q 1, so that it is walked once, with count 0.
-#[derive(Drop)]
+#[derive(Clone, Copy)]
 pub struct Middle {
     pub weight: u32,
     pub q: u32,
 }
 
 // The heaviest and the lightest missing weight, what stands at the three places between n320 and n50, and the target.
-#[derive(Drop)]
+#[derive(Clone, Copy)]
 pub struct Plan {
     pub a: u32,
     pub c: u32,
@@ -27,7 +29,7 @@ pub struct Plan {
 }
 
 // The counts of a candidate: at a, at the middles, at c.
-#[derive(Drop)]
+#[derive(Clone, Copy)]
 pub struct Spread {
     pub top: Hits,
     pub n300: Hits,
@@ -37,7 +39,7 @@ pub struct Spread {
 }
 
 // A setting of the middles: the hits left, the points so far with those of the given counts, and the middles' counts.
-#[derive(Drop)]
+#[derive(Clone, Copy)]
 pub struct Setting {
     pub left: Hits,
     pub points: Points,
@@ -47,7 +49,7 @@ pub struct Setting {
 }
 
 // The best so far. Nothing is found while tried is 0.
-#[derive(Drop)]
+#[derive(Clone, Copy)]
 pub struct Best {
     pub tried: u32,
     pub dist: Points,
@@ -55,7 +57,7 @@ pub struct Best {
 }
 
 // The lower candidate of a setting: its hits at a, and how far its points lie below the target or above it; one of the two is 0.
-#[derive(Drop)]
+#[derive(Clone, Copy)]
 struct Low {
     top: Hits,
     below: Points,

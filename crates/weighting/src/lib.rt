@@ -1,4 +1,6 @@
 // Document 02, L4: which weights a league may set, and by which weights the rows of a sheet are scored.
+#![tactic(auto)]
+
 ghost use Rattle.std.specs.Prelude.{◌≡◌};
 ghost use Rattle.score_state.specs.Points.{weights_of};
 ghost use Rattle.nearest_laws.specs.Nearest.{weighs};
@@ -7,7 +9,7 @@ ghost use Rattle.weighting.specs.Scoring.{allowed};
 use score_state::Weights;
 
 // By which weights a sheet's rows are scored: by the two standard weightings, or by a league's own.
-#[derive(Drop)]
+#[derive(Clone, Copy)]
 pub enum Scoring {
     Standard,
     Own(Weights),

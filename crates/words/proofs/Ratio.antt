@@ -6,9 +6,9 @@ use lib.Dec.{T, ltb, le→leb}
 use lib.IntN.{pos}
 use lib.Ieee.{Float, inf, Format, binary64, odd, units, round, in_float, is_nan, low, prec, emax}
 
-pub in_float : (n : ℕ) → n ≤ 9007199254740992 → T (in_float binary64 (pos n))
+pub in-float : (n : ℕ) → n ≤ 9007199254740992 → T (in_float binary64 (pos n))
 unfolding in_float
-in_float n h = le→leb n 9007199254740992 h
+in-float n h = le→leb n 9007199254740992 h
 
 odd_no_nan : (d : ℕ) (s : Bool) (q k l : ℕ) → T (not (is_nan (odd d s q k l)))
 unfolding odd is_nan

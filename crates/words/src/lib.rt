@@ -1,4 +1,6 @@
 // The lines and the words of a typed sheet: where they start and end, whether a word is a keyword, and the values that words stand for.
+#![tactic(auto)]
+
 ghost use Rattle.std.specs.Prelude.{◌≡◌, false, ◌+◌, ◌*◌, ◌<◌, ◌≤◌, length, take, drop};
 ghost use Rattle.std.specs.Float.{binary64};
 ghost use Rattle.std.specs.Float.Ieee.{round, to_bits};
@@ -7,7 +9,7 @@ ghost use Rattle.words.specs.Words.{blank, parting, blanks, word_size, small, sa
 ghost use Rattle.words.specs.Values.{number_of, before_point, behind_point, percent_of, hex_digit, hex_of};
 
 // A value that is read, or the number of the fault.
-#[derive(Drop)]
+#[derive(Clone, Copy)]
 pub enum Value {
     Is(u64),
     Bad(u32),

@@ -5,7 +5,7 @@ use native.Mathlib.Omega.{arith}
 use lib.IntN.{pos}
 use lib.Ieee.{Float, binary64, sub, of_int, of_bits}
 use Rattle.rounding.specs.Round.{product}
-use Rattle.rounding.proofs.Floats.{of_int, product_within}
+use Rattle.rounding.proofs.Floats.{of-int, product_within}
 use Rattle.fast.specs.Fast.{target_total}
 use Rattle.fast.proofs.Difference.{difference_Below, above_zero_le, not_above_rounds}
 use Rattle.fast.proofs.target_total.Statement.{statement}
@@ -29,7 +29,7 @@ round-ties-even-requires c κs =
     let t = rw (c.before.before.as-f64.ensures, c.before.as-f642.ensures) at c.if1.true in
     rw (c.before.before.as-f64.ensures, c.before.as-f642.ensures) (
       above_zero_le (difference acc d n) t,
-      difference_Below (product acc d) (of_int binary64 (pos n)) d n (omega arith) (product_within acc d (omega arith) c.before.before.before.requires.0 c.before.before.before.requires.1.0) (of_int n (omega arith)) t,
+      difference_Below (product acc d) (of_int binary64 (pos n)) d n (omega arith) (product_within acc d (omega arith) c.before.before.before.requires.0 c.before.before.before.requires.1.0) (of-int n (omega arith)) t,
     )
 
 returns : tie.Need-returns

@@ -1,5 +1,5 @@
 -- `same_weights`, a weight after the other.
-use mathlib.Core.Bool.{and_true}
+use mathlib.Core.Bool.{and-true}
 use lib.Dec.{eqb}
 use borrow.Author.Tests.{eq-eqb, ne_eqb}
 use Rattle.plan.proofs.same_weights.Statement.{statement}
@@ -28,7 +28,7 @@ returns-4 c =
 returns-5 : tie.Need-returns-5
 returns-5 c =
     let x = c.before.before.before.before.before.before.before.before.before.before.before.before.before.before.args in
-    rw (eq-eqb x.x.n320 x.y.n320 c.before.before.before.before.before.before.before.before.before.before.before.if1.false, eq-eqb x.x.n300 x.y.n300 c.before.before.before.before.before.before.before.before.if2.false, eq-eqb x.x.n200 x.y.n200 c.before.before.before.before.before.if3.false, eq-eqb x.x.n100 x.y.n100 c.before.before.if4.false, and_true (eqb x.x.n50 x.y.n50))
+    rw (eq-eqb x.x.n320 x.y.n320 c.before.before.before.before.before.before.before.before.before.before.before.if1.false, eq-eqb x.x.n300 x.y.n300 c.before.before.before.before.before.before.before.before.if2.false, eq-eqb x.x.n200 x.y.n200 c.before.before.before.before.before.if3.false, eq-eqb x.x.n100 x.y.n100 c.before.before.if4.false, and-true (eqb x.x.n50 x.y.n50))
 
 pub same-weights-spec : {M : Type 1} → statement M
 same-weights-spec = tie.close (tie.spec returns returns-2 returns-3 returns-4 returns-5)
