@@ -1,6 +1,11 @@
 // What the program `sheet` does: it reads a sheet and writes what `table::print_sheet` makes of it, whose contract says every byte. That
-// the bytes that come are those handed to `print_sheet`, and its bytes those that go, is three lines of `print_from`.
+// the bytes that come are those handed to `print_sheet`, and its bytes those that go, is what `print_from` promises.
 #![tactic(auto)]
+
+ghost use Rattle.std.specs.Prelude.{◌≡◌};
+ghost use Rattle.std.specs.Bool.{OnTrue};
+ghost use Rattle.streams.specs.Input.{Passes};
+ghost use Rattle.table.specs.Table.{printed_of};
 
 use std::io::{Read, Stderr, Stdin, Stdout, Write};
 use streams::Input;
@@ -13,7 +18,9 @@ pub fn print_from<R: Read, O: Write, E: Write>(
     input: &mut R,
     output: &mut O,
     errors: &mut E,
-) -> bool {
+) -> bool
+    ensures { OnTrue result (Passes 51233 (λ sheet text. text ≡ printed_of sheet) (R.remaining input.old) (R.remaining input.new) (O.contents output.old) (O.contents output.new)) }
+{
     let mut sheet = [0u8; MOST_READ];
     let Input::Bytes(n) = streams::read_all(input, &mut sheet) else {
         return streams::failed(errors, b"sheet: cannot read the sheet\n");

@@ -1,6 +1,11 @@
 // What the program `strides` does: it reads ten weights and writes what `stride_text::print_strides` makes of them, whose contract says
-// every byte. That the bytes that come are those handed to `print_strides`, and its bytes those that go, is three lines of `print_from`.
+// every byte. That the bytes that come are those handed to `print_strides`, and its bytes those that go, is what `print_from` promises.
 #![tactic(auto)]
+
+ghost use Rattle.std.specs.Prelude.{◌≡◌};
+ghost use Rattle.std.specs.Bool.{OnTrue};
+ghost use Rattle.streams.specs.Input.{Passes};
+ghost use Rattle.stride_text.specs.StrideText.{printed_strides};
 
 use std::io::{Read, Stderr, Stdin, Stdout, Write};
 use streams::Input;
@@ -13,7 +18,9 @@ pub fn print_from<R: Read, O: Write, E: Write>(
     input: &mut R,
     output: &mut O,
     errors: &mut E,
-) -> bool {
+) -> bool
+    ensures { OnTrue result (Passes 41 (λ weights text. text ≡ printed_strides weights) (R.remaining input.old) (R.remaining input.new) (O.contents output.old) (O.contents output.new)) }
+{
     let mut weights = [0u8; MOST_READ];
     let Input::Bytes(n) = streams::read_all(input, &mut weights) else {
         return streams::failed(errors, b"strides: cannot read the weights\n");

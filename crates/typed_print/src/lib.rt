@@ -1,8 +1,12 @@
 // What the programs `type_sheet` and `typed` do: each reads a text and writes what `typed_answer` makes of it, whose contracts say every byte.
-// That the bytes that come are those handed over, and the bytes that are made those that go, is a few lines of `make_from` and `print_from`.
+// That the bytes that come are those handed over, and the bytes that are made those that go, is what `make_from` and `print_from` promise.
 #![tactic(auto)]
 
-ghost use Rattle.streams.specs.Input.{Within};
+ghost use Rattle.std.specs.Prelude.{◌≡◌, ◌≤◌, length};
+ghost use Rattle.std.specs.Bool.{OnTrue};
+ghost use Rattle.streams.specs.Input.{Within, Took, AtMost, Passes};
+ghost use Rattle.typed_answer.specs.Answers.{sheet_answer, table_answer};
+ghost use Rattle.typed_answer.specs.Answers.Answer.{made};
 
 use std::io::{Read, Stderr, Stdin, Stdout, Write};
 use streams::Input;
@@ -21,7 +25,9 @@ fn read_text<R: Read, E: Write>(
     text: &mut [u8; TEXT_ROOM],
     message: &[u8],
 ) -> Input
-    ensures { Within result text.new }
+    ensures within { Within result text.new }
+    ensures took { Took (R.remaining input.old) (R.remaining input.new) result text.new }
+    ensures upper_bound { AtMost 262144 result }
 {
     let Input::Bytes(n) = streams::read_all(input, text) else {
         streams::failed(errors, message);
@@ -36,11 +42,9 @@ fn read_text<R: Read, E: Write>(
 
 // Writes the sheet of the text that the input gives, and answers whether it was written. Of a text with a fault only that is told, on standard
 // error.
-pub fn make_from<R: Read, O: Write, E: Write>(
-    input: &mut R,
-    output: &mut O,
-    errors: &mut E,
-) -> bool {
+pub fn make_from<R: Read, O: Write, E: Write>(input: &mut R, output: &mut O, errors: &mut E) -> bool
+    ensures { OnTrue result (Passes 262145 (λ text bytes. (length text ≤ 262144) × (sheet_answer text ≡ made bytes)) (R.remaining input.old) (R.remaining input.new) (O.contents output.old) (O.contents output.new)) }
+{
     let mut text = [0u8; TEXT_ROOM];
     let Input::Bytes(n) = read_text(
         input,
@@ -68,7 +72,9 @@ pub fn print_from<R: Read, O: Write, E: Write>(
     input: &mut R,
     output: &mut O,
     errors: &mut E,
-) -> bool {
+) -> bool
+    ensures { OnTrue result (Passes 262145 (λ text bytes. (length text ≤ 262144) × (table_answer text ≡ made bytes)) (R.remaining input.old) (R.remaining input.new) (O.contents output.old) (O.contents output.new)) }
+{
     let mut text = [0u8; TEXT_ROOM];
     let Input::Bytes(n) = read_text(input, errors, &mut text, b"typed: cannot read the text\n")
     else {
