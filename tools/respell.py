@@ -128,6 +128,7 @@ def rename(root):
     changed = 0
     for p in texts(root, (".rt", ".antt", ".edit")):
         old = read(p)
+        of_code = os.path.basename(p) in SKIP_FILES
         steps = p.endswith(STEPS) or "/closest_f64/must-fail/" in p and "specs/Sizes.antt" in old
 
         def turn(m):
@@ -136,7 +137,7 @@ def rename(root):
                 return "steps_" + snake(n)
             if n not in names:
                 return n
-            if "-" in n and m.start() and old[m.start() - 1] == ".":
+            if of_code and "-" in n and m.start() and old[m.start() - 1] == ".":
                 return n
             return names[n]
 

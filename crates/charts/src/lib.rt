@@ -25,8 +25,7 @@ pub fn read_charts(s: &[u8], at: usize, n: usize) -> [Chart; 256]
     charts
 }
 
-// A row finds its chart in a lent list of chart records. The borrow checker does not cover a struct behind a slice, so this is proved
-// by hand.
+// A row finds its chart in a lent list of chart records.
 pub fn chart_at(charts: &[Chart], i: usize) -> Chart
     requires { i < length charts.now }
     ensures { result ≡ get_or charts.now i no_chart }

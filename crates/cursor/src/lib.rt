@@ -1,18 +1,17 @@
 // The sheet's bytes are walked by one cursor that holds the sheet: it is made once, at the first byte, and each read hands back the bytes
-// that it read and the cursor behind them. The borrow checker covers no function over such a struct, so `new` and `read` are proved by
-// hand; `bytes_at`, on a plain slice and numbers, is covered.
+// that it read and the cursor behind them.
 #![tactic(auto)]
 
 ghost use Rattle.std.specs.Prelude.{◌≡◌, ◌+◌, ◌≤◌, length, take, drop};
 
-#[derive(Clone, Copy)]
+#[derive(Drop)]
 pub struct Reader<'a> {
     pub sheet: &'a [u8],
     pub at: usize,
 }
 
 // What a read hands back: the bytes that were read, and the reader behind them.
-#[derive(Clone, Copy)]
+#[derive(Drop)]
 pub struct Piece<'a> {
     pub bytes: &'a [u8],
     pub rest: Reader<'a>,

@@ -28,11 +28,11 @@ use Rattle.fast.specs.Fast.{if_none, Prelim, clamped, prelim, provided, num_prov
 use Rattle.fast.specs.Code.{prelim_of, remain_of, total_of, upgraded_of}
 
 -- ---- a bit that was tested
-pub absent : {b h : Bool} → b ≡ h → not b ≡ true → h ≡ false
-absent {b} e t = sym e ∙ not-true b t
+pub absent : {b h : Bool} → b ≡ h → b ≡ false → h ≡ false
+absent e t = sym e ∙ t
 
-pub present : {b h : Bool} → b ≡ h → not b ≡ false → h ≡ true
-present {b} e t = sym e ∙ not-false b t
+pub present : {b h : Bool} → b ≡ h → b ≡ true → h ≡ true
+present e t = sym e ∙ t
 
 -- ---- the counts before the greedy filling
 pub clamped-is : (h : Bool) (n room : ℕ) {x r : ℕ} → x ≡ cond h n 0 → r ≡ min x room → (r ≡ clamped (given h n) room) × (r ≤ room)

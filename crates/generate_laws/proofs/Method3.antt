@@ -295,7 +295,7 @@ module _ (ws : List ℕ) where
       let i = inspect_of q in
       ap (λ (a : Answer (List ℕ)). status_of a)
       (passes q f.passes ∙ third q.method i f.method ∙ ap (λ (o : Option Float). nearest_of ws i o) f.given)
-      ∙ unfold nearest_of in (found-fourteen ws i f.acc).1 f.none-exists
+      ∙ unfold nearest_of in (found-fourteen ws i f.acc).1 f.none_exists
 
   nearest_14 : (i : Inspect) (o : Option Float) → status_of (nearest_of ws i o) ≡ 14
       → (acc : Float) × (o ≡ some acc) × ((xs : List ℕ) → IsSplit (givens i) (remain i) xs → ⊥)

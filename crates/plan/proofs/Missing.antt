@@ -7,7 +7,7 @@ use mathlib.Core.Path.{◌≡◌, refl, subst}
 use lib.Dec.{T}
 use lib.ListN.{length}
 use native.Mathlib.Omega.{arith}
-use types.Run.{OneOf, miss}
+use Rattle.inspect.specs.declared.Missing.TheVariants.{Nothing, One, ThreePlus}
 use mir.Val.{has_key}
 use denote.Enum.Declared.{tag_of}
 use Rattle.score_state.specs.Points.{weights_of}
@@ -54,24 +54,19 @@ missing-length w p g = simp length_step refl
 
 -- ---- The arms of a match on how many are missing.
 
-no_other
-    : (n : ℕ) (m : Missing) (ks : List ℕ) → m ≡ missing_of n → T (not (has_key ks (tag_of the_type (missing_of n))))
-    → OneOf ks (tag_of the_type m) → ⊥
-no_other n m ks e t o = miss ks (tag_of the_type (missing_of n)) t (subst (λ (x : Missing). OneOf ks (tag_of the_type x)) e o)
-
 -- the cases but `Nothing`, and the last two
-pub some-missing : (n : ℕ) (m : Missing) → m ≡ missing_of n → OneOf (1 ∷ 2 ∷ 3 ∷ []) (tag_of the_type m) → 1 ≤ n
-some-missing zero m e o = absurd (no_other 0 m (1 ∷ 2 ∷ 3 ∷ []) e tt o)
+pub some-missing : (n : ℕ) (m : Missing) → m ≡ missing_of n → (m ≡ Nothing → ⊥) → 1 ≤ n
+some-missing zero m e o = absurd (o e)
 some-missing (suc n) m e o = omega arith
 
-pub two_missing : (n : ℕ) (m : Missing) → m ≡ missing_of n → OneOf (2 ∷ 3 ∷ []) (tag_of the_type m) → 2 ≤ n
-two_missing zero m e o = absurd (no_other 0 m (2 ∷ 3 ∷ []) e tt o)
-two_missing (suc zero) m e o = absurd (no_other 1 m (2 ∷ 3 ∷ []) e tt o)
-two_missing (suc (suc n)) m e o = omega arith
+pub two_missing : (n : ℕ) (m : Missing) → m ≡ missing_of n → (m ≡ Nothing → ⊥) → (m ≡ One → ⊥) → 2 ≤ n
+two_missing zero m e o w = absurd (o e)
+two_missing (suc zero) m e o w = absurd (w e)
+two_missing (suc (suc n)) m e o w = omega arith
 
 -- the cases but `ThreePlus`
-pub few-missing : (n : ℕ) (m : Missing) → m ≡ missing_of n → OneOf (0 ∷ 1 ∷ 2 ∷ []) (tag_of the_type m) → n < 3
+pub few-missing : (n : ℕ) (m : Missing) → m ≡ missing_of n → (m ≡ ThreePlus → ⊥) → n < 3
 few-missing zero m e o = omega arith
 few-missing (suc zero) m e o = omega arith
 few-missing (suc (suc zero)) m e o = omega arith
-few-missing (suc (suc (suc n))) m e o = absurd (no_other (suc (suc (suc n))) m (0 ∷ 1 ∷ 2 ∷ []) e tt o)
+few-missing (suc (suc (suc n))) m e o = absurd (o e)

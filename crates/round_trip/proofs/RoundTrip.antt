@@ -95,11 +95,11 @@ module _ (s : List ℕ) (has : HasText s) (p : Places) (h : Placed s p) where
       let y : ℕ = u32_at s (4 + 8 * a + 4) in
       let ws : List (List ℕ) = decimal_text (u32_at s (4 + 8 * a)) ∷ decimal_text (u32_at s (4 + 8 * a + 4)) ∷ [] in
       let ok : all_words ws ≡ true = chart-words x y in
-      let inside : 4 + 8 * a + 8 ≤ length s = omega (arith, w.few-charts, w.section, w.behind, w.ends) in
+      let inside : 4 + 8 * a + 8 ≤ length s = omega (arith, w.few_charts, w.section, w.behind, w.ends) in
       let m : 8 * (a + 1) ≡ 8 * a + 8 = omega arith in
       add_line s p text (chart ++ spaced ws) a 0 0 (a + 1) 0 0 (chart_line x y) u (in-line chart ws chart_word ok) (some-length chart ws chart-long)
       (λ j. line_heard chart ws j (chart_line x y) chart_word ok (chart_heard x y (u32-small s b i) (u32-small s b (i + 4))) refl refl) refl
-      (λ n l e f. counts-chart a 0 0 n l (omega (arith, w.few-charts)) e f)
+      (λ n l e f. counts-chart a 0 0 n l (omega (arith, w.few_charts)) e f)
       (glue s 4 i (8 * a) 8 (8 * (a + 1)) _ _ refl (chart_back s b i inside) refl m)
       (same_piece s p.weights (20 * 0)) (same_piece s p.rows (48 * 0))
 
@@ -179,7 +179,7 @@ module _ (s : List ℕ) (has : HasText s) (p : Places) (h : Placed s p) where
       rw (z, ← l, ← add-one d) (play_next (joined (line_at s) (p.charts + p.own + d)) p.charts p.own d u k)
 
   plays_begin : upto (p.charts + p.own + 0) p.charts p.own 0
-  plays_begin = let z : p.charts + p.own + 0 ≡ p.charts + p.own = omega arith in rw z (own_upto p.own refl w.few-own)
+  plays_begin = let z : p.charts + p.own + 0 ≡ p.charts + p.own = omega arith in rw z (own_upto p.own refl w.few_own)
 
   plays_upto : (d : ℕ) → d ≤ p.queries → upto (p.charts + p.own + d) p.charts p.own d
   plays_upto d k = climb (λ (n : ℕ). upto (p.charts + p.own + n) p.charts p.own n) p.queries plays_begin play_step d k

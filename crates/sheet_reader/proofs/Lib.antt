@@ -1,4 +1,3 @@
-pub mod Again
 pub mod Pieces
-pub mod Read
 pub mod Sections
+pub mod Walked

@@ -1,6 +1,4 @@
 // A sheet that no check stops, walked by one reader from its first byte to its last; its charts lie in one list that is lent to the rows.
-// The borrow checker covers no function over a reader or a lent list of structs, so these three are proved by hand; what they call on
-// plain slices and numbers is covered.
 #![tactic(auto)]
 
 ghost use Rattle.std.specs.Prelude.{true, ◌≡◌, ◌+◌, ◌*◌, ◌≤◌, length, take};

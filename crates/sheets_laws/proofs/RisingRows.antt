@@ -69,7 +69,7 @@ module _ (s out : List ℕ) (ok : sheet_stop s (length out) ≡ 0) where
       subst
       (λ (i : Inspect). IsNearest (weights_by (scoring_of s) i.classic) (most_tried (scoring_of s)) i y (written bytes k) → Answers.RisingAnswers (weights_for s j) (inspected s j) i x y (written bytes j) (written bytes k))
       (other_acc s j k c.alike)
-      (Answers.rising-answers (weights_for s j) (most_tried (scoring_of s)) (inspected s j) (inspected s k).acc x y (written bytes j) (written bytes k) (weighting_for s out ok j) n.0 n.1)
+      (Answers.rising_answers (weights_for s j) (most_tried (scoring_of s)) (inspected s j) (inspected s k).acc x y (written bytes j) (written bytes k) (weighting_for s out ok j) n.0 n.1)
       m.1
 
   -- alike but for acc, the rows have the same weights

@@ -78,7 +78,7 @@ module _ (text out : List ℕ) where
   short_by out' false true h k l s =
       let f : Fine text t = fine_of text t refl (ltb-false 0 t.fault h) in
       let m = ltb-true (length out) (sheet_size t) k in
-      omega (arith, f.charts-cap, f.weights-cap, f.plays-cap)
+      omega (arith, f.charts_cap, f.weights-cap, f.plays-cap)
   short_by out' false false h k l s = let e = rw (h, k) at s.answers in let z : ◌≡◌ {A = ℕ} 0 1 = cc in omega arith
 
   pub never_short : (r : Typed) (out' : List ℕ) → r ≡ typed.Short → length out ≡ 51232 → Says (typed_sheet text out) r out' → ⊥

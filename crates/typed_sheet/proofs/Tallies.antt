@@ -110,7 +110,7 @@ joined t t₁ t₂ s ss x y =
       charts = omega (arith, x.charts, y.charts);
       weights = omega (arith, x.weights, y.weights);
       plays = omega (arith, x.plays, y.plays);
-      charts_cap = λ z. y.charts-cap (x.charts-cap z);
+      charts_cap = λ z. y.charts_cap (x.charts_cap z);
       weights-cap = λ z. y.weights-cap (x.weights-cap z);
       plays-cap = λ z. y.plays-cap (x.plays-cap z);
     }
@@ -169,7 +169,7 @@ fine s r =
       charts = omega (arith, charts_length (lines s), a.charts);
       weights = omega (arith, weights-length (lines s), a.weights);
       plays = omega (arith, plays-length (lines s), a.plays);
-      charts_cap = a.charts-cap (omega arith);
+      charts_cap = a.charts_cap (omega arith);
       weights-cap = a.weights-cap (omega arith);
       plays-cap = a.plays-cap (omega arith);
     }

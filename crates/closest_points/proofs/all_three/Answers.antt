@@ -1,23 +1,17 @@
 -- `closest_points::all_three`: the loop offers the candidates of its span in turn. Assumes nothing.
-use Prim.Native.Nat.{ℕ, ◌-◌, ◌≤◌}
-use mathlib.Core.List.{List, [], ◌∷◌}
-use mathlib.Core.Option.{Option}
+use mathlib.Core.Bool.{not}
+use mathlib.Core.Path.{ap}
+use Prim.Native.Nat.{◌-◌, ◌≤◌}
 use native.Mathlib.Omega.{arith}
-use Rattle.units.specs.declared.Hits.{Hits}
-use Rattle.units.specs.declared.Points.{Points}
-use Rattle.closest_laws.specs.Loops.{Kept, scan, nearer}
-use Rattle.closest_laws.specs.Closest.{Last, last_at}
+use Rattle.closest_laws.specs.Loops.{scan, nearer}
 use Rattle.closest_laws.proofs.Steps.{stays, leaves, loop_turn, loop_done, all-is}
 use Rattle.closest_points.specs.Code.{last_view, near_by}
 use Rattle.closest_points.proofs.all_three.Goals as goal
+use Rattle.closest_points.proofs.all_three.Invariants.{tries}
 use Rattle.closest_points.proofs.all_three.Goals.{In-loop-remain}
 
--- the candidate with so many n200
-abbrev tries : Hits → Points → Points → ℕ → List (Kept (Option ℕ) Last)
-tries remain earned target n = last_at remain.0 earned.0 target.0 n ∷ []
-
-turns : (c : In-loop-remain invariant-loop decreases-loop) → c.before.before.loop.new200.0 ≤ c.before.before.before.before.n200-values.result.hi.0
-turns c = stays _ _ _ c.before.less.ensures c.if1.true
+turns : (c : In-loop-remain) → c.loop-remain.new200.0 ≤ c.n200_values-span.result.hi.0
+turns c = stays _ _ _ c.less.ensures (ap not c.loop-remain-test.true)
 
 pub n200_values-span-requires : goal.n200_values-span-requires
 n200_values-span-requires c = c.requires
@@ -41,4 +35,4 @@ pub returns : goal.returns
 returns c =
     let x = c.args in
     all-is x.remain.0 x.earned.0 x.target.0 c.n200_values-span.result.lo.0 c.n200_values-span.result.hi.0 (near_by last_view c.loop-remain.best) c.n200_values-span.ensures.0
-    (loop_done nearer (tries x.remain x.earned x.target) _ _ _ _ (leaves _ _ _ c.less.ensures c.loop-remain-test.false) c.loop-remain.invariant)
+    (loop_done nearer (tries x.remain x.earned x.target) _ _ _ _ (leaves _ _ _ c.less.ensures (ap not c.loop-remain-test.false)) c.loop-remain.invariant)

@@ -25,10 +25,10 @@ pub plus-requires : goal.plus-requires
 plus-requires c = omega (arith, c.times-2.ensures, c.plus-base.ensures, c.times.ensures, lightest c.before.before.before, c.requires.0)
 
 pub div_round_ties_even-requires : goal.div_round_ties_even-requires
-div_round_ties_even-requires c = let p = c.requires in (omega (arith, c.saturating_sub-raw.ensures, p.1), p.2, omega (arith, p.3))
+div_round_ties_even-requires c = (omega (arith, c.saturating_sub-raw.ensures, c.requires.1), c.requires.2, omega (arith, c.requires.3))
 
 pub returns : goal.returns
-returns c =record {
+returns c = record {
   heavier = c.least-x.ensures ∙ rw (c.div_round_ties_even.ensures, c.saturating_sub-raw.ensures, c.plus.ensures, c.times-2.ensures, c.plus-base.ensures, c.times.ensures, c.saturating_sub-remaining.ensures);
   lighter = c.saturating_sub.ensures ∙ rw c.saturating_sub-remaining.ensures;
 }

@@ -1,0 +1,9 @@
+-- `heaviest` is the first of the missing weights.
+use Rattle.plan.proofs.Missing.{first_step, first-none}
+use Rattle.plan.proofs.heaviest.Goals as goal
+
+pub returns : goal.returns
+returns c =
+    λ g.
+    simp (first_step, first-none)
+    (rw (c.pick.ensures, c.pick-n300.ensures, c.pick-n200.ensures, c.pick-n100.ensures, c.pick-n50.ensures))
