@@ -1,9 +1,13 @@
 // What the program `sheet_text` does: it reads a sheet and writes its text, whose every byte `typed_text::text_of` tells, or tells on
-// standard error what refuses it. That the bytes that come are those handed to `text_of`, and its bytes those that go, is in `print_from`.
+// standard error what refuses it. That the bytes that come are those handed to `text_of`, and its bytes those that go, is what `print_from` promises.
 #![tactic(auto)]
 
-ghost use Rattle.std.specs.Prelude.{◌≤◌, length};
+ghost use Rattle.std.specs.Prelude.{◌≡◌, ◌≤◌, false, length};
+ghost use Rattle.std.specs.Bool.{OnTrue};
+ghost use Rattle.std.specs.Io.KnownBytes.{Appends};
+ghost use Rattle.streams.specs.Input.{Passes};
 ghost use Rattle.text.specs.Text.{Appended};
+ghost use Rattle.typed_text.specs.SheetText.{text_of};
 ghost use Rattle.text_print.specs.Stopped.{stopped_text};
 
 use std::io::{Read, Stderr, Stdin, Stdout, Write};
@@ -28,20 +32,26 @@ fn put_stopped(text: &mut [u8], index: usize, number: u32) -> usize
     text::put_byte(text, number_end, b'\n')
 }
 
-fn tell_stopped<E: Write>(errors: &mut E, index: usize, number: u32) -> bool {
+fn tell_stopped<E: Write>(errors: &mut E, index: usize, number: u32) -> bool
+    ensures { result ≡ false }
+{
     let mut line = [0u8; 37];
     let end = put_stopped(&mut line, index, number);
     streams::failed(errors, &line[..end])
 }
 
-fn tell_refused<E: Write>(errors: &mut E, number: u32) -> bool {
+fn tell_refused<E: Write>(errors: &mut E, number: u32) -> bool
+    ensures { result ≡ false }
+{
     let mut line = [0u8; 19];
     let end = text::put_refused(&mut line, number);
     streams::failed(errors, &line[..end])
 }
 
 // Writes the text of a sheet, or tells why there is none.
-fn print_text<O: Write, E: Write>(output: &mut O, errors: &mut E, sheet: &[u8]) -> bool {
+fn print_text<O: Write, E: Write>(output: &mut O, errors: &mut E, sheet: &[u8]) -> bool
+    ensures { OnTrue result (Appends (O.contents output.old) (O.contents output.new) (text_of sheet.now)) }
+{
     let mut text = [0u8; ROOM];
     match typed_text::text_of(sheet, &mut text) {
         SheetText::Text(end) => streams::write_text(
@@ -61,7 +71,9 @@ pub fn print_from<R: Read, O: Write, E: Write>(
     input: &mut R,
     output: &mut O,
     errors: &mut E,
-) -> bool {
+) -> bool
+    ensures { OnTrue result (Passes 51233 (λ sheet text. text ≡ text_of sheet) (R.remaining input.old) (R.remaining input.new) (O.contents output.old) (O.contents output.new)) }
+{
     let mut sheet = [0u8; MOST_READ];
     let Input::Bytes(n) = streams::read_all(input, &mut sheet) else {
         return streams::failed(errors, b"sheet_text: cannot read the sheet\n");
