@@ -15,8 +15,7 @@ use Rattle.nearest.specs.Outcome.{Ask}
 use Rattle.nearest.specs.declared.Five.{Five}
 use Rattle.nearest.proofs.Known.{folded_is}
 use Rattle.nearest.proofs.Asked.{six_of, falls}
-use Rattle.nearest.proofs.all_missing.Statement.{statement}
-use Rattle.nearest.proofs.all_missing.Tie as tie
+use Rattle.nearest.proofs.all_missing.Goals as goal
 
 abbrev five : List (Option ℕ)
 five = none ∷ none ∷ none ∷ none ∷ none ∷ []
@@ -28,20 +27,17 @@ walked : (w : Weights) (T R : ℕ) → walked_of (weights_of w) (fold (weights_o
 unfolding walked_of found given_hits given_points or
 walked w T R = simp (sub-zero, mul-zero)
 
-found-requires : tie.Need-found-requires
+pub found-requires : goal.found-requires
 unfolding unwrap_or_zero or
-found-requires c κs =
+found-requires c =
     let x = c.args in
     let ask : Ask x.weights 0 zeros x.remain = record { weighting = c.requires.0; fits = c.requires.1; n320 = omega arith; n300 = omega arith; n200 = omega arith; n100 = omega arith; n50 = omega arith } in
     (falls ask, omega (arith, c.requires.1))
 
-returns : tie.Need-returns
+pub returns : goal.returns
 unfolding unwrap_or_zero
 returns c =
-    let x = c.before.args in
+    let x = c.args in
     c.found.ensures
     ∙ ap (λ (gs : List (Option ℕ)). walked_of (weights_of x.weights) gs x.target.0 x.remain.0 0) (folded_is x.weights 0 (six_of zeros))
     ∙ walked x.weights x.target.0 x.remain.0
-
-pub all-missing-spec : {M : Type 1} → statement M
-all-missing-spec = tie.close (tie.spec found-requires returns)
