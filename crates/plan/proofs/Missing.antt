@@ -3,11 +3,12 @@ use Prim.Native.Nat.{ℕ, zero, suc, ◌+◌, ◌<◌, ◌≤◌}
 use mathlib.Core.Bool.{Bool, true, false, cond, not}
 use mathlib.Core.List.{List, [], ◌∷◌}
 use mathlib.Core.Option.{Option}
+use mathlib.Core.Logic.{◌⊎◌, inl, inr}
 use mathlib.Core.Path.{◌≡◌, refl, subst}
 use lib.Dec.{T}
 use lib.ListN.{length}
 use native.Mathlib.Omega.{arith}
-use Rattle.inspect.specs.declared.Missing.TheVariants.{Nothing, One, ThreePlus}
+use Rattle.inspect.specs.declared.Missing.TheVariants.{Nothing, One, Two, ThreePlus}
 use mir.Val.{has_key}
 use denote.Enum.Declared.{tag_of}
 use Rattle.score_state.specs.Points.{weights_of}
@@ -59,10 +60,18 @@ pub some-missing : (n : ℕ) (m : Missing) → m ≡ missing_of n → (m ≡ Not
 some-missing zero m e o = absurd (o e)
 some-missing (suc n) m e o = omega arith
 
-pub two_missing : (n : ℕ) (m : Missing) → m ≡ missing_of n → (m ≡ Nothing → ⊥) → (m ≡ One → ⊥) → 2 ≤ n
-two_missing zero m e o w = absurd (o e)
-two_missing (suc zero) m e o w = absurd (w e)
-two_missing (suc (suc n)) m e o w = omega arith
+pub two_missing : (n : ℕ) (m : Missing) → m ≡ missing_of n → m ≡ Two ⊎ m ≡ ThreePlus → 2 ≤ n
+two_missing zero m e o = absurd (none m e o)
+  where
+    none : (m : Missing) → m ≡ Nothing → m ≡ Two ⊎ m ≡ ThreePlus → ⊥
+    none m e (inl p) = cc
+    none m e (inr p) = cc
+two_missing (suc zero) m e o = absurd (one m e o)
+  where
+    one : (m : Missing) → m ≡ One → m ≡ Two ⊎ m ≡ ThreePlus → ⊥
+    one m e (inl p) = cc
+    one m e (inr p) = cc
+two_missing (suc (suc n)) m e o = omega arith
 
 -- the cases but `ThreePlus`
 pub few-missing : (n : ℕ) (m : Missing) → m ≡ missing_of n → (m ≡ ThreePlus → ⊥) → n < 3

@@ -1,5 +1,5 @@
 // Records as numbers: a section's count of 4 bytes, a sheet's chart of 8 and its query's row of 48, and five weights of 20.
-#![tactic(auto)]
+#![tactic(auto, unfolding(crate::specs::Records::chart_at, crate::specs::Records::counts_at, crate::specs::Records::row_at, crate::specs::Records::weights_at))]
 
 ghost use Rattle.std.specs.Prelude.{◌≡◌, cond, ◌+◌, ◌*◌, ◌≤◌, eqb, length};
 ghost use Rattle.little_endian.specs.Bytes.{u32_at};

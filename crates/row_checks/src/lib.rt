@@ -1,5 +1,5 @@
 // The checks of a row: 7 to 9 and 19, and where the chart that it names stands (6).
-#![tactic(auto)]
+#![tactic(auto, unfolding(crate::specs::RowChecks::left_over, crate::specs::RowChecks::holds_left, crate::specs::RowChecks::fields_left, crate::specs::RowChecks::unknown_row, crate::specs::RowChecks::own_unfit, crate::specs::RowChecks::row_stop))]
 
 ghost use Rattle.std.specs.Prelude.{◌≡◌, cond, ◌<◌, ◌≤◌, ltb};
 ghost use Rattle.row_checks.specs.RowChecks.{left_over, holds_left, fields_left, unknown_row, own_unfit, row_stop};

@@ -72,4 +72,4 @@ returns-in-4 c = let two = c.two_of_last-in-4.ensures in rw (two.lighter, two.he
 pub returns-in_default : goal.returns-in_default
 returns-in_default c =
     let n = c.in_default.in_default-own.rest in
-    c.All-three.ensures ∙ known c.before.before.before.before 0 (no_bit _ (omega arith) n.0.0.0.0.0.0.1 n.0.0.0.0.0.1 n.0.0.0.0.1 n.0.0.0.1 n.0.0.1 n.0.1 n.1)
+    c.all_three.ensures ∙ known c.before.before.before.before 0 (no_bit _ (omega arith) n.0.0.0.0.0.0.1 n.0.0.0.0.0.1 n.0.0.0.0.1 n.0.0.0.1 n.0.0.1 n.0.1 n.1)

@@ -1,4 +1,6 @@
 -- `closest::optimize_three_plus_missing`: the loop offers the rows of its span in turn, and the first two rows are enough. Assumes nothing.
+use mathlib.Core.Bool.{not}
+use mathlib.Core.Path.{ap}
 use Prim.Native.Nat.{◌-◌, ◌≤◌}
 use native.Mathlib.Omega.{arith}
 use lib.Ieee.{lt}
@@ -12,7 +14,7 @@ use Rattle.closest.proofs.optimize_three_plus_missing.Goals as goal
 use Rattle.closest.proofs.optimize_three_plus_missing.Goals.{In-loop-play}
 
 turns : (c : In-loop-play) → c.loop-play.new320.0 ≤ c.n320_values-span.result.hi.0
-turns c = stays _ _ _ c.less.ensures c.loop-play-test.true
+turns c = stays _ _ _ c.less.ensures (ap not c.loop-play-test.true)
 
 pub n320_values-span-requires : goal.n320_values-span-requires
 n320_values-span-requires c = c.requires.0
@@ -39,4 +41,4 @@ returns c =
     let w = c.requires.0 in
     search_is (play_view p) w.heavy w.top w.hits (lacks-one p.presence n.n320 n.n300 n.n200 n.n100 n.n50 c.requires.1)
     c.n320_values-span.result.lo.0 c.n320_values-span.result.hi.0 (best_view c.start-best.result) (best_view c.loop-play.best) c.n320_values-span.ensures.0 c.start-best.ensures
-    (loop_done lt (outer first_two (play_view p)) _ _ _ _ (leaves _ _ _ c.less.ensures c.loop-play-test.false) c.loop-play.invariant)
+    (loop_done lt (outer first_two (play_view p)) _ _ _ _ (leaves _ _ _ c.less.ensures (ap not c.loop-play-test.false)) c.loop-play.invariant)

@@ -25,7 +25,7 @@ unfolding hits given_hits
 provided-hits c = omega arith
 
 over : (c : After-less) → c.less.result ≡ ltb c.args.play.remain.0 (given_hits (provided (play_view c.args.play)))
-over c = c.less.ensures ∙ ap (λ (n : ℕ). ltb c.args.play.remain.0 n) (provided-hits c.before)
+over c = c.less.ensures ∙ ap (λ (n : ℕ). ltb c.args.play.remain.0 n) (provided-hits c.before.before)
 
 sum_is : (c : After-points_of-provided_sum) → c.points_of-provided_sum.result.0 ≡ points (c.args.play.w320 ∷ 60 ∷ 40 ∷ 20 ∷ 10 ∷ []) (counts_of c.args.play.counts)
 sum_is c =
@@ -57,11 +57,11 @@ solve_two_vars-solved-requires c =
     let f = subst (λ (ws : List ℕ). Falls p.w320 ws) c.missing_weights-w1.ensures (falls_missing p.w320 (weights (play_view p)) (provided (play_view p)) (le_refl p.w320, (w.heavy, (lit≤ tt, (lit≤ tt, (lit≤ tt, tt)))))) in
     let l : c.minus-num_provided.result.0 ≤ p.remain.0 = ltb-false _ _ (sym c.less.ensures ∙ c.if-less.false) in
     let h : n.n320 + n.n300 + n.n200 + n.n100 + n.n50 ≤ most_hits = omega (arith, c.minus-num_provided.ensures, c.total_hits.ensures, w.hits) in
-    (le_trans f.0 (le_trans w.top (lit≤ tt)), f.1.0, omega (arith, c.minus-remain_hits.ensures, w.hits), rw (sum_is c.before) (sum_within p.w320 n.n320 n.n300 n.n200 n.n100 n.n50 w.top h), w.aim)
+    (le_trans f.0 (le_trans w.top (lit≤ tt)), f.1.0, omega (arith, c.minus-remain_hits.ensures, w.hits), rw (sum_is c.before.before) (sum_within p.w320 n.n320 n.n300 n.n200 n.n100 n.n50 w.top h), w.aim)
 
 pub returns : goal.returns
 unfolding by_missing
 returns c =
     let p = play_view c.args.play in
-    ap (λ (r : HitResults). worked (six r)) (two_is p c.missing_weights-w1.ensures (c.minus-remain_hits.ensures ∙ ap (λ (n : ℕ). p.remain - n) (provided-hits c.before.before.before.before.before.before.before.before.before)) (provided-points c.before.before.before) c.solve_two_vars-solved.ensures c.fill_in.ensures.0 c.fill_in.ensures.1)
-    ∙ ap (λ (b : Bool). cond b (refused 12) (worked (six (plain_optimize_two_missing p)))) (sym c.if-less.false ∙ over c.before.before.before.before.before.before.before.before)
+    ap (λ (r : HitResults). worked (six r)) (two_is p c.missing_weights-w1.ensures (c.minus-remain_hits.ensures ∙ ap (λ (n : ℕ). p.remain - n) (provided-hits c.before.before.before.before.before.before.before.before.before.before.before.before)) (provided-points c.before.before.before.before) c.solve_two_vars-solved.ensures c.fill_in.ensures.0 c.fill_in.ensures.1)
+    ∙ ap (λ (b : Bool). cond b (refused 12) (worked (six (plain_optimize_two_missing p)))) (sym c.if-less.false ∙ over c.before.before.before.before.before.before.before.before.before.before)

@@ -7,17 +7,6 @@ use borrow.Author.Tests.{lt-ltb, le-ltb}
 use Rattle.relay_laws.specs.Plays.{chart_count, plays_of}
 use Rattle.relay_laws.specs.Checks.{any_of, bad_count, numbers_for, over_chart, over_misses, relay_stop}
 use Rattle.relay_plays.proofs.stop_of.Goals as goal
-use Rattle.relay_plays.proofs.stop_of.Goals.{Else-over, Else-over-2, Else-room-plays}
-
--- what the tests that were passed say
-room : (c : Else-room-plays) → ltb c.args.room (numbers_for (chart_count c.args.plays.now)) ≡ false
-room c = le-ltb _ _ c.if-room-plays.false
-
-charts : (c : Else-over) → any_of over_chart (plays_of c.args.plays.now) ≡ false
-charts c = sym c.over_of-over.ensures.0 ∙ c.if-over.false
-
-misses : (c : Else-over-2) → any_of over_misses (plays_of c.args.plays.now) ≡ false
-misses c = sym c.over_of-over.ensures.1 ∙ c.if-over-2.false
 
 pub returns-then-bad_count : goal.returns-then-bad_count
 unfolding relay_stop
@@ -29,19 +18,19 @@ returns-then-room-plays c = rw (sym c.bad_count.ensures ∙ c.if-bad_count.false
 
 pub returns-then-over : goal.returns-then-over
 unfolding relay_stop
-returns-then-over c = rw (sym c.bad_count.ensures ∙ c.if-bad_count.false, room c.before.before, sym c.over_of-over.ensures.0 ∙ c.if-over.true)
+returns-then-over c = rw (sym c.bad_count.ensures ∙ c.if-bad_count.false, le-ltb _ _ c.if-room-plays.false, sym c.over_of-over.ensures.0 ∙ c.if-over.true)
 
 pub returns-then-over-2 : goal.returns-then-over-2
 unfolding relay_stop
 returns-then-over-2 c =
-    rw (sym c.bad_count.ensures ∙ c.if-bad_count.false, room c.before.before.before, charts c.before, sym c.over_of-over.ensures.1 ∙ c.if-over-2.true)
+    rw (sym c.bad_count.ensures ∙ c.if-bad_count.false, le-ltb _ _ c.if-room-plays.false, sym c.over_of-over.ensures.0 ∙ c.if-over.false, sym c.over_of-over.ensures.1 ∙ c.if-over-2.true)
 
 pub returns-then-acc_outside : goal.returns-then-acc_outside
 unfolding relay_stop
 returns-then-acc_outside c =
-    rw (sym c.bad_count.ensures ∙ c.if-bad_count.false, room c.before.before.before.before.before, charts c.before.before.before, misses c.before.before, sym c.acc_outside.ensures ∙ c.if-acc_outside.true)
+    rw (sym c.bad_count.ensures ∙ c.if-bad_count.false, le-ltb _ _ c.if-room-plays.false, sym c.over_of-over.ensures.0 ∙ c.if-over.false, sym c.over_of-over.ensures.1 ∙ c.if-over-2.false, sym c.acc_outside.ensures ∙ c.if-acc_outside.true)
 
 pub returns : goal.returns
 unfolding relay_stop
 returns c =
-    rw (sym c.bad_count.ensures ∙ c.if-bad_count.false, room c.before.before.before.before.before, charts c.before.before.before, misses c.before.before, sym c.acc_outside.ensures ∙ c.if-acc_outside.false)
+    rw (sym c.bad_count.ensures ∙ c.if-bad_count.false, le-ltb _ _ c.if-room-plays.false, sym c.over_of-over.ensures.0 ∙ c.if-over.false, sym c.over_of-over.ensures.1 ∙ c.if-over-2.false, sym c.acc_outside.ensures ∙ c.if-acc_outside.false)

@@ -1,5 +1,6 @@
--- The loop of `text::put_bytes`: the first bytes are pasted.
-use Rattle.std.proofs.Common.{length, ◌-◌, ◌≡◌, ◌≤◌}
+use mathlib.Core.Path.{◌≡◌}
+use Prim.Native.Nat.{◌-◌, ◌≤◌}
+use lib.ListN.{length}
 use lib.Seq.{paste}
 use Rattle.text.proofs.put_bytes.Given as goal
 

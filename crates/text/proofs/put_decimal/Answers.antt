@@ -1,6 +1,8 @@
 -- `text::put_decimal` meets its contract. Assumes nothing.
-use Rattle.std.proofs.Common.{rules, ◌<◌, ◌≤◌, length}
+use Prim.Native.Nat.{◌≤◌, ◌<◌}
+use lib.ListN.{length}
 use native.Mathlib.Omega.{arith}
+use borrow.Author.Rules.{rules}
 use Rattle.text.specs.Text.{decimal_text}
 use Rattle.text.proofs.Decimal.{text_within}
 use Rattle.text.proofs.put_decimal.Goals as goal
@@ -12,16 +14,11 @@ put_number-requires c =
     let l : length (decimal_text x.n) ≤ 10 = text_within 9 x.n (omega arith) in
     omega arith
 
-pub returns-clause-upper_bound : goal.returns-clause-upper_bound
-returns-clause-upper_bound c =
+pub returns : goal.returns
+returns c =
     let x = c.args in
-    let e = c.put_number.ensures.ends in
+    let p = c.put_number.ensures in
+    let e = p.ends in
     let b : x.n < 4294967296 = search rules in
     let l : length (decimal_text x.n) ≤ 10 = text_within 9 x.n (omega arith) in
-    omega arith
-
-pub returns-clause-upper_bound_2 : goal.returns-clause-upper_bound_2
-returns-clause-upper_bound_2 c =
-    let x = c.args in
-    let e = c.put_number.ensures.ends in
-    λ h. (let q : length (decimal_text x.n) ≤ 4 = text_within 3 x.n (omega arith) in omega arith)
+    record { appended = p; upper_bound = omega arith; upper_bound_2 = λ h. (let q : length (decimal_text x.n) ≤ 4 = text_within 3 x.n (omega arith) in omega arith) }

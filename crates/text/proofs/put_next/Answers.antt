@@ -3,8 +3,8 @@ use native.Mathlib.Omega.{arith}
 use Rattle.text.proofs.Appended.{followed}
 use Rattle.text.proofs.put_next.Goals as goal
 
-pub returns-clause-appended : goal.returns-clause-appended
-returns-clause-appended c =
+pub returns : goal.returns
+returns c =
     let space = c.put_byte-next.ensures in
     let number = c.put_decimal.ensures in
-    followed space number.appended (omega (arith, space.ends, number.upper_bound, c.requires))
+    record { appended = followed space number.appended (omega arith); upper_bound = omega arith }

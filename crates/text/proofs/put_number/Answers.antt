@@ -1,10 +1,14 @@
 -- `text::put_number` meets its contract. Assumes nothing.
-use Rattle.std.proofs.Common.{rules, ◌<◌, ◌∙◌, length, ap}
+use Prim.Native.Nat.{◌<◌}
+use mathlib.Core.Path.{ap, ◌∙◌}
+use lib.ListN.{length}
 use native.Mathlib.Omega.{arith}
+use borrow.Author.Rules.{rules}
 use Rattle.text.proofs.Appended.{restated}
 use Rattle.text.proofs.Decimal.{decimal_digits}
 use Rattle.text.proofs.put_number.Goals as goal
 
+-- the digits that were made are the number's text
 pub put_bytes-requires : goal.put_bytes-requires
 put_bytes-requires c =
     let x = c.args in

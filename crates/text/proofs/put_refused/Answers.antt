@@ -10,4 +10,4 @@ returns c =
     let word = c.put_bytes-word_end.ensures in
     let number = c.put_decimal-number_end.ensures in
     let end = c.put_byte.ensures in
-    followed (followed word number.appended (omega (arith, word.ends, number.upper_bound, c.requires))) end (omega (arith, word.ends, number.upper_bound, end.ends, c.requires))
+    followed (followed word number.appended (omega arith)) end (omega arith)

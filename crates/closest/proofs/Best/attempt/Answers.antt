@@ -27,13 +27,13 @@ returns-then-less c =
     inner_skip first_two (play_view x.play) x.new320.0 x.new300.0 (best_view x.self) (sym (test c.before) ∙ c.if-less.true)
 
 pub times-requires : goal.times-requires
-times-requires c = omega (arith, points c.before.before.before.before.before)
+times-requires c = omega (arith, points c.before.before.before.before.before.before)
 
 pub plus-score_300-requires : goal.plus-score_300-requires
-plus-score_300-requires c = omega (arith, points c.before.before.before.before.before.before.before, c.times.ensures, c.times-2.ensures, c.requires)
+plus-score_300-requires c = omega (arith, points c.before.before.before.before.before.before.before.before, c.times.ensures, c.times-2.ensures, c.requires)
 
 pub optimize_last_three-requires : goal.optimize_last_three-requires
-optimize_last_three-requires c = (c.requires.0, omega (arith, points c.before.before.before.before.before.before.before.before, c.plus-score_300.ensures, c.times.ensures, c.times-2.ensures, c.minus-remain_after_300.ensures, c.plus.ensures, c.requires.2, c.requires.0.hits))
+optimize_last_three-requires c = (c.requires.0, omega (arith, points c.before.before.before.before.before.before.before.before.before, c.plus-score_300.ensures, c.times.ensures, c.times-2.ensures, c.minus-remain_after_300.ensures, c.plus.ensures, c.requires.2, c.requires.0.hits))
 
 pub accuracy_distance-requires : goal.accuracy_distance-requires
 accuracy_distance-requires c =

@@ -7,9 +7,9 @@ use Rattle.closest.proofs.Best.offer.Goals as goal
 pub returns-then-dist-self : goal.returns-then-dist-self
 returns-then-dist-self c =
     let x = c.args in
-    offer_took lt (best_try x.dist x.result) (best_view x.self) c.if-dist-self.true
+    offer_took lt (best_try x.dist x.res) (best_view x.self) c.if-dist-self.true
 
 pub returns-else-dist-self : goal.returns-else-dist-self
 returns-else-dist-self c =
     let x = c.args in
-    offer_kept lt (best_try x.dist x.result) (best_view x.self) c.if-dist-self.false
+    offer_kept lt (best_try x.dist x.res) (best_view x.self) c.if-dist-self.false

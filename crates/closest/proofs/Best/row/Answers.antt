@@ -1,6 +1,7 @@
 -- `closest::Best::row` is the body of the outer loop: its own loop offers the candidates of its span in turn. Assumes nothing.
+use mathlib.Core.Bool.{not}
 use Prim.Native.Nat.{◌-◌, ◌≤◌}
-use mathlib.Core.Path.{◌≡◌, sym, ◌∙◌}
+use mathlib.Core.Path.{◌≡◌, sym, ◌∙◌, ap}
 use native.Mathlib.Omega.{arith}
 use lib.Dec.{ltb}
 use lib.Ieee.{lt}
@@ -16,7 +17,7 @@ test : (c : After-less) → c.less.result ≡ ltb (c.args.play.remain.0 - c.args
 test c = c.less.ensures ∙ rw (c.min_space_needed.ensures, c.minus.ensures)
 
 turns : (c : In-loop-play) → c.loop-play.new300.0 ≤ c.n300_values-span.result.hi.0
-turns c = stays _ _ _ c.less-in-loop-play.ensures c.loop-play-test.true
+turns c = stays _ _ _ c.less-in-loop-play.ensures (ap not c.loop-play-test.true)
 
 pub minus-requires : goal.minus-requires
 minus-requires c = c.requires.2
@@ -50,5 +51,5 @@ pub returns : goal.returns
 returns c =
     let x = c.args in
     outer-take first_two (play_view x.play) x.new320.0 c.n300_values-span.result.lo.0 c.n300_values-span.result.hi.0 (best_view x.self) (best_view c.loop-play.best)
-    (sym (test c.before.before.before.before.before.before) ∙ c.if-less.false) c.n300_values-span.ensures.0
-    (loop_done lt (inner first_two (play_view x.play) x.new320.0) _ _ _ _ (leaves _ _ _ c.less-in-loop-play.ensures c.loop-play-test.false) c.loop-play.invariant)
+    (sym (test c.before.before.before.before.before.before.before) ∙ c.if-less.false) c.n300_values-span.ensures.0
+    (loop_done lt (inner first_two (play_view x.play) x.new320.0) _ _ _ _ (leaves _ _ _ c.less-in-loop-play.ensures (ap not c.loop-play-test.false)) c.loop-play.invariant)
