@@ -2,7 +2,7 @@
  * a text with a fault and of a sheet without a text, too. MAIN is nuqsillay_sheet_main (libsheet_print.a), nuqsillay_strides_main
  * (libstride_print.a), nuqsillay_typed_main or nuqsillay_type_sheet_main (libtyped_print.a) or nuqsillay_sheet_text_main
  * (libtext_print.a).
- *   rt staticlib sheet_print && gcc -O2 -DMAIN=nuqsillay_sheet_main examples/main.c target/staticlib/libsheet_print.a -lm -o target/sheet_main
+ *   tools/staticlib sheet_print && gcc -O2 -DMAIN=nuqsillay_sheet_main examples/main.c target/staticlib/libsheet_print.a -lm -o target/sheet_main
  *   target/sheet_main < examples/sample.sheet */
 #include <stdint.h>
 

@@ -1,4 +1,4 @@
-/* Nuqsillay: judgement counts of osu!mania plays. Link target/staticlib/libnuqsillay.a, which `rt staticlib nuqsillay` writes.
+/* Nuqsillay: judgement counts of osu!mania plays. Link target/staticlib/libnuqsillay.a, which `tools/staticlib nuqsillay` writes.
  * docs/RULES.md tells the words, the records and the checks.
  *
  * Each call answers NUQSILLAY_OK, or the number of the check that refuses its input; a refused call leaves its outputs as they were,

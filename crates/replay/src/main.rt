@@ -9,10 +9,11 @@ ghost use Rattle.std.specs.Prelude.{◌+◌, ◌*◌, ◌<◌, ◌≤◌, length
 
 use generated::Generated;
 use inspect::{Accuracy, Chart, Holds, Query};
-use libc::{STDIN_FILENO, STDOUT_FILENO};
 use little_endian::{f64_of, u32_at, u64_at};
 use rounded_target::TargetAnswer;
 use score_state::{AccuracyAnswer, HitResults};
+use std::io;
+use std::io::Write;
 
 // The six counts of a record.
 fn counts_at(s: &[u8], at: usize) -> HitResults
@@ -171,31 +172,23 @@ fn tally_of(s: &[u8], kind: u8) -> Tally {
     Tally { run, differ }
 }
 
-fn number(n: u32) {
-    io::print_decimal(STDOUT_FILENO, n as u64);
-}
-
 // A line for one kind: its records and how many differ.
-fn report(s: &[u8], kind: u8, name: &[u8]) {
+fn report<O: Write>(output: &mut O, s: &[u8], kind: u8, name: &str) -> io::Result<()> {
     let t = tally_of(s, kind);
-    io::write_all(STDOUT_FILENO, name);
-    number(t.run);
-    io::write_all(STDOUT_FILENO, b" records, ");
-    number(t.differ);
-    io::write_all(STDOUT_FILENO, b" differ\n");
+    writeln!(output, "{name}: {} records, {} differ", t.run, t.differ)
 }
 
-fn report_all(list: &[u8]) {
-    report(list, 0, b"accuracy: ");
-    report(list, 1, b"target: ");
-    report(list, 2, b"ignore_acc: ");
-    report(list, 3, b"fast: ");
-    report(list, 4, b"closest: ");
-    report(list, 5, b"nearest: ");
+fn report_all<O: Write>(output: &mut O, list: &[u8]) -> io::Result<()> {
+    report(output, list, 0, "accuracy")?;
+    report(output, list, 1, "target")?;
+    report(output, list, 2, "ignore_acc")?;
+    report(output, list, 3, "fast")?;
+    report(output, list, 4, "closest")?;
+    report(output, list, 5, "nearest")
 }
 
-fn main() {
+fn main(rt: HostRuntime) -> io::Result<()> {
     let mut list = [0u8; 262144];
-    let n = io::read_full(STDIN_FILENO, &mut list);
-    report_all(&list[..n]);
+    let n = streams::read_full(&mut rt.stdin(), &mut list);
+    report_all(&mut rt.stdout(), &list[..n])
 }

@@ -2,31 +2,54 @@
 // of it.
 #![tactic(auto)]
 
-use libc::STDOUT_FILENO;
+use std::fs;
+use std::io::{ErrorKind, Read, Result, Write};
+use std::rt::Files;
+
+// A stored file as what reads it. One that could not be opened cannot be read either.
+#[derive(Drop)]
+pub enum Stored<F> {
+    Opened(F),
+    Missing,
+}
+
+impl<F: Read> Read for Stored<F> {
+    fn read(&mut self, buf: &mut [u8]) -> Result<usize> {
+        match self {
+            Stored::Opened(file) => file.read(buf),
+            Stored::Missing => Err(ErrorKind::NotFound.into()),
+        }
+    }
+}
 
 // Prints the file's name and opens it.
-pub fn opened(name: &[u8]) -> i32 {
-    io::write_all(STDOUT_FILENO, name);
-    io::write_all(STDOUT_FILENO, b"\n");
-    os::open_read(name)
+pub fn opened<R: Files, O: Write>(rt: &R, output: &mut O, name: &[u8]) -> Stored<R::File> {
+    let _ = output.write_all(name);
+    let _ = output.write_all(b"\n");
+    let Ok(path) = str::from_utf8(name) else {
+        return Stored::Missing;
+    };
+    match fs::open(rt, path) {
+        Ok(file) => Stored::Opened(file),
+        Err(_) => Stored::Missing,
+    }
 }
 
 // What a program left of its input: it reads no more than it needs to tell that bytes follow.
-fn unread(fd: i32) {
+fn unread<F: Read, O: Write>(file: &mut F, output: &mut O) {
     let mut rest = [0u8; 20];
-    let n = io::read_full(fd, &mut rest);
+    let n = streams::read_full(file, &mut rest);
     if n > 0 {
-        io::print_decimal(STDOUT_FILENO, n as u64);
-        io::write_all(STDOUT_FILENO, b" not read\n");
+        let _ = write!(output, "{n} not read\n");
     }
 }
 
 // Closes the file, once it was printed or could not be.
-pub fn closed(fd: i32, printed: bool) {
+pub fn closed<F: Read + Drop, O: Write>(file: Stored<F>, output: &mut O, printed: bool) {
+    let mut file = file;
     if printed {
-        unread(fd);
+        unread(&mut file, output);
     } else {
-        io::write_all(STDOUT_FILENO, b"failed\n");
+        let _ = output.write_all(b"failed\n");
     }
-    libc::close(fd);
 }

@@ -2,36 +2,38 @@
 // is expected. `tests/beside/run stored` writes both.
 #![tactic(auto)]
 
-fn stored(name: &[u8]) {
-    let fd = stored_files::opened(name);
-    stored_files::closed(fd, sheet_print::print_from(fd));
+fn stored(rt: &HostRuntime, name: &[u8]) {
+    let mut output = rt.stdout();
+    let mut file = stored_files::opened(rt, &mut output, name);
+    let printed = sheet_print::print_from(&mut file, &mut output, &mut rt.stderr());
+    stored_files::closed(file, &mut output, printed);
 }
 
-fn main() {
-    stored(b"example.sheet");
-    stored(b"no_bytes.sheet");
-    stored(b"no_queries.sheet");
-    stored(b"cut.sheet");
-    stored(b"charts_over.sheet");
-    stored(b"queries_over.sheet");
-    stored(b"one_byte_follows.sheet");
-    stored(b"full.sheet");
-    stored(b"full_one_follows.sheet");
-    stored(b"full_two_follow.sheet");
-    stored(b"holds_passed.sheet");
-    stored(b"full_standard_one_follows.sheet");
-    stored(b"full_standard_22_follow.sheet");
-    stored(b"own.sheet");
-    stored(b"own_equal.sheet");
-    stored(b"own_longest.sheet");
-    stored(b"weights_count_cut.sheet");
-    stored(b"weights_count_2.sheet");
-    stored(b"weights_cut.sheet");
-    stored(b"weights_over.sheet");
-    stored(b"weights_zero.sheet");
-    stored(b"weights_rising.sheet");
-    stored(b"weights_equal.sheet");
-    stored(b"weights_queries_over.sheet");
+fn main(rt: HostRuntime) {
+    stored(&rt, b"example.sheet");
+    stored(&rt, b"no_bytes.sheet");
+    stored(&rt, b"no_queries.sheet");
+    stored(&rt, b"cut.sheet");
+    stored(&rt, b"charts_over.sheet");
+    stored(&rt, b"queries_over.sheet");
+    stored(&rt, b"one_byte_follows.sheet");
+    stored(&rt, b"full.sheet");
+    stored(&rt, b"full_one_follows.sheet");
+    stored(&rt, b"full_two_follow.sheet");
+    stored(&rt, b"holds_passed.sheet");
+    stored(&rt, b"full_standard_one_follows.sheet");
+    stored(&rt, b"full_standard_22_follow.sheet");
+    stored(&rt, b"own.sheet");
+    stored(&rt, b"own_equal.sheet");
+    stored(&rt, b"own_longest.sheet");
+    stored(&rt, b"weights_count_cut.sheet");
+    stored(&rt, b"weights_count_2.sheet");
+    stored(&rt, b"weights_cut.sheet");
+    stored(&rt, b"weights_over.sheet");
+    stored(&rt, b"weights_zero.sheet");
+    stored(&rt, b"weights_rising.sheet");
+    stored(&rt, b"weights_equal.sheet");
+    stored(&rt, b"weights_queries_over.sheet");
     // A folder, which opens and cannot be read.
-    stored(b".");
+    stored(&rt, b".");
 }

@@ -2,23 +2,25 @@
 // is expected. `tests/beside/run stored_strides` writes both.
 #![tactic(auto)]
 
-fn stored(name: &[u8]) {
-    let fd = stored_files::opened(name);
-    stored_files::closed(fd, stride_print::print_from(fd));
+fn stored(rt: &HostRuntime, name: &[u8]) {
+    let mut output = rt.stdout();
+    let mut file = stored_files::opened(rt, &mut output, name);
+    let printed = stride_print::print_from(&mut file, &mut output, &mut rt.stderr());
+    stored_files::closed(file, &mut output, printed);
 }
 
-fn main() {
-    stored(b"standard.weights");
+fn main(rt: HostRuntime) {
+    stored(&rt, b"standard.weights");
     // The first set folds, the second does not.
-    stored(b"own.weights");
-    stored(b"no_bytes.weights");
-    stored(b"39_bytes.weights");
-    stored(b"41_bytes.weights");
-    stored(b"42_bytes.weights");
-    stored(b"over.weights");
-    stored(b"rising.weights");
-    stored(b"equal.weights");
-    stored(b"zero.weights");
+    stored(&rt, b"own.weights");
+    stored(&rt, b"no_bytes.weights");
+    stored(&rt, b"39_bytes.weights");
+    stored(&rt, b"41_bytes.weights");
+    stored(&rt, b"42_bytes.weights");
+    stored(&rt, b"over.weights");
+    stored(&rt, b"rising.weights");
+    stored(&rt, b"equal.weights");
+    stored(&rt, b"zero.weights");
     // A folder, which opens and cannot be read.
-    stored(b".");
+    stored(&rt, b".");
 }

@@ -4,7 +4,7 @@ use Prim.Native.Nat.{ℕ}
 use mathlib.Core.Bool.{Bool, true, false, cond}
 use mathlib.Core.List.{List, [], ◌∷◌, map}
 use mathlib.Core.Option.{Option, none, some}
-use mathlib.Core.Path.{◌≡◌, refl, sym}
+use mathlib.Core.Path.{◌≡◌, refl, sym, ap, ◌∙◌}
 use native.Mathlib.Nat.{le_refl}
 use lib.Dec.{eqb}
 use borrow.Author.Tests.{eqb-true, le-ltb}
@@ -30,7 +30,11 @@ slot-top a c n = sym (rw (le-ltb a a (le_refl a)))
 
 equal-pair : (w : ℕ) (ws : List ℕ) (gs : List (Option ℕ)) → plain_of (w ∷ (w ∷ ws)) (none ∷ (some 0 ∷ gs)) ≡ plain_of (w ∷ (w ∷ ws)) (none ∷ (none ∷ gs))
 unfolding missing slots first_of
-equal-pair w ws gs = rw (last_twice w (missing ws gs), slot-top w (last_of 0 (w ∷ (w ∷ missing ws gs))) 0)
+equal-pair w ws gs =
+    let us = missing ws gs in
+    let l = last_of 0 (w ∷ (w ∷ us)) in
+    ap (λ (e : ℕ). (slot_of w e w none).q ∷ ((slot_of w e w (some 0)).q ∷ map (λ (m : Middle). m.q) (slots w e ws gs))) (last_twice w us)
+    ∙ ap (λ (n : Middle). (slot_of w l w none).q ∷ (n.q ∷ map (λ (m : Middle). m.q) (slots w l ws gs))) (slot-top w l 0)
 
 pub fold_unseen : (ws : List ℕ) (gs : List (Option ℕ)) → strides_of ws gs ≡ plain_of ws gs
 unfolding strides_of fold

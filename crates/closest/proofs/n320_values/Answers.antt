@@ -18,7 +18,7 @@ values-requires c =
 
 pub returns : goal.returns
 unfolding values320
-returns c =(
+returns c = (
   c.values.ensures.0 ∙ rw (c.saturating_sub-room.ensures, c.min_space_needed.ensures, c.is_given-given.ensures),
   omega (arith, c.values.ensures.1, c.saturating_sub-room.ensures),
 )

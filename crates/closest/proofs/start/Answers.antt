@@ -19,8 +19,8 @@ returns c =
     let w = c.requires in
     let g = c.is_given in
     let n50 : or (given (has p.presence 16) p.counts.n50) p.remain.0 ≡ c.if-not-is_given.n50.0 =
-    elim c.if-not-is_given.branch
-    [ then-not-is_given w ↦ or-missing (has p.presence 16) p.counts.n50 p.remain.0 (sym g.ensures ∙ w.if-not-is_given.true) ∙ sym (ap (λ (h : Hits). h.0) w.n50-is)
-    | else-not-is_given w ↦ or-given (has p.presence 16) p.counts.n50 p.remain.0 (sym g.ensures ∙ w.if-not-is_given.false) ∙ sym (ap (λ (h : Hits). h.0) w.n50-is)
+    elim c.if-not-is_given.branch [
+      | then-not-is_given w ↦ or-missing (has p.presence 16) p.counts.n50 p.remain.0 (sym g.ensures ∙ w.if-not-is_given.true) ∙ sym (ap (λ (h : Hits). h.0) w.n50-is)
+      | else-not-is_given w ↦ or-given (has p.presence 16) p.counts.n50 p.remain.0 (sym g.ensures ∙ w.if-not-is_given.false) ∙ sym (ap (λ (h : Hits). h.0) w.n50-is)
     ] in
     rw (c.of.ensures, w.zero320, w.zero300, w.zero200, w.zero100, n50)

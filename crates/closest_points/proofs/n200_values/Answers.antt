@@ -24,7 +24,7 @@ pub plus-requires-3 : goal.plus-requires-3
 plus-requires-3 c = omega (arith, c.steps.ensures.0, c.saturating_sub-min_raw.ensures, c.requires.1)
 
 pub returns : goal.returns
-returns c =(
+returns c = (
   two_values
       (c.steps.ensures.0 ∙ rw (c.saturating_sub-min_raw.ensures, c.plus.ensures, c.times.ensures))
       (c.least-max200.ensures ∙ rw (c.plus-2.ensures, c.div_ceil.ensures.0, c.saturating_sub-max_raw.ensures))

@@ -7,8 +7,8 @@ use Rattle.methods.proofs.closest_counts.Goals as goal
 
 pub returns-in-Counts : goal.returns-in-Counts
 returns-in-Counts c =
-        ap untried (sym (ap Closest.answer_of c.in-Counts.is) ∙ c.generate_hitresults.ensures ∙ sym (closest-is_the_rust c.args.q c.args.acc c.requires.domain c.requires.t_1 c.requires.t_2))
+    ap untried (sym (ap Closest.answer_of c.in-Counts.is) ∙ c.generate_hitresults.ensures ∙ sym (closest-is_the_rust c.args.q c.args.acc c.requires.domain c.requires.t_1 c.requires.t_2))
 
 pub returns-in-Overfull : goal.returns-in-Overfull
 returns-in-Overfull c =
-        ap untried (sym (ap Closest.answer_of c.in-Overfull.is) ∙ c.generate_hitresults.ensures ∙ sym (closest-is_the_rust c.args.q c.args.acc c.requires.domain c.requires.t_1 c.requires.t_2))
+    ap untried (sym (ap Closest.answer_of c.in-Overfull.is) ∙ c.generate_hitresults.ensures ∙ sym (closest-is_the_rust c.args.q c.args.acc c.requires.domain c.requires.t_1 c.requires.t_2))

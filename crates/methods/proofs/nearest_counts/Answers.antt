@@ -34,12 +34,12 @@ use Rattle.methods.proofs.nearest_counts.Goals as goal
 -- w and the total are within their limits
 pub target_of-target-requires : goal.target_of-target-requires
 target_of-target-requires c =
-        let light = weighting-light c.args.weights c.requires.weighting in
+    let light = weighting-light c.args.weights c.requires.weighting in
     record { t_1 = c.requires.t_1; t_2 = c.requires.t_2; w_le_most_weight = (omega arith, omega arith) }
 
 pub nearest-requires : goal.nearest-requires
 nearest-requires c =
-        let d = c.requires.domain in
+    let d = c.requires.domain in
     record {
       weighting = c.requires.weighting;
       fits = omega arith;

@@ -53,7 +53,7 @@ pub points_of-points-requires : goal.points_of-points-requires
 points_of-points-requires c = record { fact_1 = light c.requires; fact_2 = rw (known c.before.before.before) (capped c.requires) }
 
 pub found-requires : goal.found-requires
-found-requires c =(
+found-requires c = (
   rw (known c.before.before.before.before.before) (falls c.requires),
   rw (points c.before, c.minus-remain_hits.ensures, sum c.before.before.before.before) (fits c.requires (within c.before.before)),
 )

@@ -17,7 +17,7 @@ loop-k-init c = (omega arith, refl, refl)
 pub returns-in-Has : goal.returns-in-Has
 returns-in-Has c =
     let l = c.loop-k in
-        sym (from_here l.k c.args.bits (Has c.in-Has.n c.in-Has.places) (omega arith) (sym c.percentage_with.ensures ∙ c.in-Has.is)) ∙ l.invariant.2
+    sym (from_here l.k c.args.bits (Has c.in-Has.n c.in-Has.places) (omega arith) (sym c.percentage_with.ensures ∙ c.in-Has.is)) ∙ l.invariant.2
 
 pub overflow_mul-q : goal.overflow_mul-q
 overflow_mul-q c =

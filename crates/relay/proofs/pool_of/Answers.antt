@@ -15,7 +15,7 @@ loop-k-init c = (omega arith, rw sub-zero (omega arith), rw sub-zero (omega arit
 
 pub with_chart-pool-requires : goal.with_chart-pool-requires
 with_chart-pool-requires c =
-        let l = c.loop-k in
+    let l = c.loop-k in
     let s = c.args.plays.now in record { domain = rw c.play_query.ensures (play_domain c.args.classic (play_at s l.k) (c.requires.playable l.k (omega arith))); most_hits_bound = (omega (arith, l.invariant.3, c.requires.plays_bound), omega (arith, l.invariant.4, c.requires.plays_bound)) }
 
 pub loop-k-preserved : goal.loop-k-preserved
@@ -38,7 +38,7 @@ loop-k-preserved c =
 
 pub returns : goal.returns
 returns c =
-        let s = c.args.plays.now in
+    let s = c.args.plays.now in
     let l = c.loop-k in
     let e : l.k ≡ chart_count s = omega arith in
     let t = rw e at l.invariant.1 in

@@ -24,8 +24,11 @@ returns c =
     let xs = five_of x.left in
     let room : c.remain.result.0 ≡ remain_of x.classic (play_at x.plays.now x.k) = c.remain.ensures.0 ∙ ap (λ (z : Query). remain (inspect_of z)) q in
     let missed : c.misses.result.0 ≡ misses_of x.classic (play_at x.plays.now x.k) = c.misses.ensures.0 ∙ ap (λ (z : Query). misses (inspect_of z)) q in
-    let d = c.deal-d.ensures in record { result_value = d.1 ∙ ap (undealt xs) room; out_after = c.put_six.ensures
-          ∙ ap (put x.out.now (numbers_for x.k)) (ap₂ (λ (ys : List ℕ) (m : ℕ). ys ++ (m ∷ [])) (d.0 ∙ ap (dealt xs) room) missed) }
+    let d = c.deal-d.ensures in record {
+      result_value = d.1 ∙ ap (undealt xs) room;
+      out_after = c.put_six.ensures
+          ∙ ap (put x.out.now (numbers_for x.k)) (ap₂ (λ (ys : List ℕ) (m : ℕ). ys ++ (m ∷ [])) (d.0 ∙ ap (dealt xs) room) missed);
+    }
 
 pub remain-requires : goal.remain-requires
 remain-requires c = in-domain c

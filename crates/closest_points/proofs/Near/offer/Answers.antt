@@ -11,9 +11,9 @@ pub returns-then-fresh : goal.returns-then-fresh
 returns-then-fresh c =
     let x = c.args in
     offer_took nearer (near_try x.dist x.counts) (near_view x.self)
-    (elim c.then-fresh.branch
-    [ then-fresh-via-then-fresh w ↦ near-fresh x.self.found x.dist.0 x.self.dist.0 w.if-fresh.true
-    | then-fresh-via-else-fresh+then-less w ↦ near_less x.self.found x.dist.0 x.self.dist.0 w.if-fresh.false (sym w.less.ensures ∙ w.if-less.true)
+    (elim c.then-fresh.branch [
+      | then-fresh-via-then-fresh w ↦ near-fresh x.self.found x.dist.0 x.self.dist.0 w.if-fresh.true
+      | then-fresh-via-else-fresh+then-less w ↦ near_less x.self.found x.dist.0 x.self.dist.0 w.if-fresh.false (sym w.less.ensures ∙ w.if-less.true)
     ])
 
 pub returns-else-less : goal.returns-else-less

@@ -35,7 +35,7 @@ attempt-next-requires c =
     )
 
 pub attempt-requires : goal.attempt-requires
-attempt-requires c =(
+attempt-requires c = (
   omega (arith, less c.before.before.before.before.before.before.before),
   omega (arith, lower_tried (lower c.before.before.before.before.before.before.before.before.before.before.before.before.before), c.requires.1.tried),
 )

@@ -1,0 +1,27 @@
+-- `fault_text::put_word` meets its contract. Assumes nothing.
+use Prim.Native.Nat.{◌≤◌}
+use native.Mathlib.Omega.{arith}
+use lib.ListN.{length, take, length-take}
+use borrow.Author.Tests.{lt-ltb, le-ltb}
+use Rattle.text.proofs.Appended.{followed}
+use Rattle.fault_text.specs.FaultText.{shown_word}
+use Rattle.fault_text.proofs.put_word.Goals as goal
+
+pub returns-then-word-gt40 : goal.returns-then-word-gt40
+unfolding shown_word
+returns-then-word-gt40 c =
+    let w = c.args.word.now in
+    let a = c.put_shown-end.ensures in
+    let b = c.put_bytes.ensures in
+    let k : length (take 40 w) ≤ 40 = simp length-take (omega arith) in
+    let e = a.value in
+    let f = b.ends in
+    record { appended = rw (lt-ltb 40 (length w) c.if-word-gt40.true) (followed a.appended b (omega arith)); upper_bound = omega arith }
+
+pub returns : goal.returns
+unfolding shown_word
+returns c =
+    let w = c.args.word.now in
+    let a = c.put_shown.ensures in
+    let e = a.value in
+    record { appended = rw (le-ltb 40 (length w) c.if-word-gt40.false) a.appended; upper_bound = omega arith }

@@ -1,0 +1,8 @@
+-- What is known of a text once all of it was written.
+-- Assumes nothing.
+use Rattle.std.proofs.Common.{Bool, true, false}
+use Rattle.std.specs.Bool.{OnTrue}
+
+pub on_true : (b : Bool) (P Q : Type 0) → (P → Q) → OnTrue b P → OnTrue b Q
+on_true true P Q f p = f p
+on_true false P Q f p = tt
