@@ -16,7 +16,7 @@ returns-then-word-gt40 c =
     let k : length (take 40 w) ≤ 40 = simp length-take (omega arith) in
     let e = a.value in
     let f = b.ends in
-    record { appended = rw (lt-ltb 40 (length w) c.if-word-gt40.true) (followed a.appended b (omega arith)); upper_bound = omega arith }
+    record { appended = rw (lt-ltb 40 (length w) (omega arith)) (followed a.appended b (omega arith)); upper_bound = omega arith }
 
 pub returns : goal.returns
 unfolding shown_word
@@ -24,4 +24,4 @@ returns c =
     let w = c.args.word.now in
     let a = c.put_shown.ensures in
     let e = a.value in
-    record { appended = rw (le-ltb 40 (length w) c.if-word-gt40.false) a.appended; upper_bound = omega arith }
+    record { appended = rw (le-ltb 40 (length w) (omega arith)) a.appended; upper_bound = omega arith }

@@ -1,5 +1,6 @@
 -- `print_strides`: the length, then the weights, then the lines.
 use mathlib.Core.Path.{refl}
+use native.Mathlib.Omega.{arith}
 use lib.ListN.{replicate}
 use Rattle.text.proofs.Appended.{restated, counted, front, beyond}
 use Rattle.stride_text.proofs.Printed.{other_length, bad_weights, good-weights}
@@ -16,7 +17,7 @@ returns-then-status-ne0 c =
     let w = c.read_weights-first in
     let v = c.read_weights-second in
     let n = c.fill_strides-status in
-    let p = restated c.put_refused-then-status-ne0.ensures (bad_weights s c.if-weights-ne40.false w.result v.result (replicate 320 0) n.result w.ensures v.ensures refl n.ensures.status c.if-status-ne0.true) in
+    let p = restated c.put_refused-then-status-ne0.ensures (bad_weights s (omega arith) w.result v.result (replicate 320 0) n.result w.ensures v.ensures refl n.ensures.status c.if-status-ne0.true) in
     record { counted = counted p; printed = front p; beyond = beyond p }
 
 pub returns : goal.returns
@@ -25,5 +26,5 @@ returns c =
     let w = c.read_weights-first in
     let v = c.read_weights-second in
     let n = c.fill_strides-status in
-    let p = restated c.put_lines.ensures (good-weights s c.if-weights-ne40.false w.result v.result (replicate 320 0) n.result w.ensures v.ensures refl n.ensures.status _ c.if-status-ne0.false n.ensures.numbers) in
+    let p = restated c.put_lines.ensures (good-weights s (omega arith) w.result v.result (replicate 320 0) n.result w.ensures v.ensures refl n.ensures.status _ c.if-status-ne0.false n.ensures.numbers) in
     record { counted = counted p; printed = front p; beyond = beyond p }

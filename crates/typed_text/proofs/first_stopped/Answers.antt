@@ -1,0 +1,38 @@
+-- `typed_text::first_stopped` meets its contract. Assumes nothing.
+use mathlib.Core.Path.{◌≡◌, ap, sym, ◌∙◌}
+use Prim.Native.Nat.{◌<◌, ◌-◌}
+use native.Mathlib.Omega.{arith}
+use Rattle.typed_text.specs.SheetText.{fault_at, first_from, first_stopped}
+use Rattle.typed_text.proofs.Inside.{queries_are}
+use Rattle.typed_text.proofs.Texts.{first_on, first_here, first-none}
+use Rattle.typed_text.proofs.first_stopped.Goals as goal
+
+pub loop-i-init : goal.loop-i-init
+unfolding first_stopped
+loop-i-init c =
+    let x = c.args in
+    let z : x.p.queries - 0 ≡ x.p.queries = omega arith in
+    (omega arith, rw z (ap (first_from (fault_at x.sheet.now) 0) (queries_are x.sheet.now x.p c.requires)))
+
+pub fault_at-requires : goal.fault_at-requires
+fault_at-requires c = record { placed = c.requires; i_lt_queries = omega arith }
+
+pub returns-then-fault_at-gt0 : goal.returns-then-fault_at-gt0
+returns-then-fault_at-gt0 c =
+    let x = c.args in
+    let l = c.loop-i in
+    let f : 0 < fault_at x.sheet.now l.i = rw c.fault_at.ensures at c.if-fault_at-gt0.true in
+    sym (first_here (fault_at x.sheet.now) l.i x.p.queries (omega arith) f) ∙ l.invariant.1
+
+pub loop-i-preserved : goal.loop-i-preserved
+loop-i-preserved c =
+    let x = c.args in
+    let l = c.loop-i in
+    let z : c.fault_at.result ≡ 0 = omega arith in
+    (omega arith, sym (first_on (fault_at x.sheet.now) l.i x.p.queries (omega arith) (sym c.fault_at.ensures ∙ z)) ∙ l.invariant.1)
+
+pub returns : goal.returns
+returns c =
+    let x = c.args in
+    let l = c.loop-i in
+    sym (first-none (fault_at x.sheet.now) l.i x.p.queries (omega arith)) ∙ l.invariant.1
