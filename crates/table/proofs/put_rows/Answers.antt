@@ -1,6 +1,5 @@
 -- `table::put_rows` meets its contract. Assumes nothing.
 use mathlib.Core.Path.{◌≡◌, refl}
-use Prim.Native.Nat.{◌-◌}
 use native.Mathlib.Omega.{arith}
 use Rattle.text.proofs.Appended.{nothing, next_piece}
 use Rattle.row_text.specs.RowText.{row_text}
