@@ -12,10 +12,10 @@ pub returns-in-Worked : goal.returns-in-Worked
 returns-in-Worked c =
     let x = c.args in
     let w = c.work_sheet in
-    sheet-worked x.sheet.now x.out.now _ w.result x.totals.now w.ensures.equation c.if-totals-lt7.false _ _ _ c.in-Worked.is c.hand_totals.ensures
+    sheet-worked x.sheet.now x.out.now _ w.result x.totals.now w.ensures.equation (omega arith) _ _ _ c.in-Worked.is c.hand_totals.ensures
 
 pub returns-in-Refused : goal.returns-in-Refused
 returns-in-Refused c =
     let x = c.args in
     let w = c.work_sheet in
-    sheet-refused x.sheet.now x.out.now _ w.result x.totals.now w.ensures.equation c.if-totals-lt7.false _ c.in-Refused.is
+    sheet-refused x.sheet.now x.out.now _ w.result x.totals.now w.ensures.equation (omega arith) _ c.in-Refused.is

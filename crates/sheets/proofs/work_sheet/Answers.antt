@@ -21,7 +21,7 @@ unstopped : (s : List ℕ) (room n : ℕ) → n ≡ sheet_stop s room → n ≤ 
 unstopped s room n e h = let z : n ≡ 0 = omega arith in sym e ∙ z
 
 pub work_accepted-queries-requires : goal.work_accepted-queries-requires
-work_accepted-queries-requires c = unstopped c.args.sheet.now (length c.args.out.now) _ c.sheet_stop-stop.ensures c.if-stop-gt0.false
+work_accepted-queries-requires c = unstopped c.args.sheet.now (length c.args.out.now) _ c.sheet_stop-stop.ensures (omega arith)
 
 -- its queries
 queries : (s : List ℕ) (room n : ℕ) → n ≡ sheet_stop s room → n ≤ 0 → QueriesIn s (queries_at s) room
@@ -29,13 +29,13 @@ queries s room n e h = (accepted s room (unstopped s room n e h)).queries
 
 pub totals_of-totals-requires : goal.totals_of-totals-requires
 totals_of-totals-requires c =
-    let q = queries c.args.sheet.now (length c.args.out.now) _ c.sheet_stop-stop.ensures c.if-stop-gt0.false in
+    let q = queries c.args.sheet.now (length c.args.out.now) _ c.sheet_stop-stop.ensures (omega arith) in
     let e = c.work_accepted-queries.ensures.0 in
     (omega (arith, q.few, e), omega (arith, q.room, e))
 
 pub overflow_cast-result : goal.overflow_cast-result
 overflow_cast-result c =
-    let q = queries c.args.sheet.now (length c.args.out.now) _ c.sheet_stop-stop.ensures c.if-stop-gt0.false in
+    let q = queries c.args.sheet.now (length c.args.out.now) _ c.sheet_stop-stop.ensures (omega arith) in
     let e = c.work_accepted-queries.ensures.0 in
     omega (arith, q.few, e)
 
@@ -43,5 +43,5 @@ pub returns : goal.returns
 returns c =
     let x = c.args in
     let w = c.work_accepted-queries in
-    let e = sheet-from x.sheet.now x.out.now w.result _ _ (unstopped c.args.sheet.now (length c.args.out.now) _ c.sheet_stop-stop.ensures c.if-stop-gt0.false) w.ensures.0 w.ensures.1 c.totals_of-totals.ensures in
+    let e = sheet-from x.sheet.now x.out.now w.result _ _ (unstopped c.args.sheet.now (length c.args.out.now) _ c.sheet_stop-stop.ensures (omega arith)) w.ensures.0 w.ensures.1 c.totals_of-totals.ensures in
     let a = claims (Worked w.result c.totals_of-totals.result) x.sheet.now x.out.now _ e in record { equation = a.0; totals = a.1.0; demand3 = a.1.1.0; rising = a.1.1.1 }
