@@ -13,7 +13,7 @@ pub returns-in-Text : goal.returns-in-Text
 returns-in-Text c =
     let x = c.args in
     let s = c.text_of in
-        ap (lent_by 0 s.new.out) c.tell_one.ensures ∙ told_by x.sheet.now x.out.now x.told.now s.result (Text c.in-Text.n) _ (omega arith) s.ensures.outcome c.in-Text.is
+    ap (lent_by 0 s.new.out) c.tell_one.ensures ∙ told_by x.sheet.now x.out.now x.told.now s.result (Text c.in-Text.n) _ (omega arith) s.ensures.outcome c.in-Text.is
 
 pub returns-in-Refused : goal.returns-in-Refused
 returns-in-Refused c =
@@ -25,7 +25,7 @@ pub returns-in-Row : goal.returns-in-Row
 returns-in-Row c =
     let x = c.args in
     let s = c.text_of in
-        ap (lent_by c.in-Row.number s.new.out) c.tell_one-in-Row.ensures ∙ told_by x.sheet.now x.out.now x.told.now s.result (Row c.in-Row.index c.in-Row.number) _ (omega arith) s.ensures.outcome c.in-Row.is
+    ap (lent_by c.in-Row.number s.new.out) c.tell_one-in-Row.ensures ∙ told_by x.sheet.now x.out.now x.told.now s.result (Row c.in-Row.index c.in-Row.number) _ (omega arith) s.ensures.outcome c.in-Row.is
 
 pub returns-in-Short : goal.returns-in-Short
 returns-in-Short c =

@@ -13,13 +13,13 @@ pub returns-in-Sheet : goal.returns-in-Sheet
 returns-in-Sheet c =
     let x = c.args in
     let s = c.sheet_of in
-        ap (lent_by 0 s.new.out) c.tell_one.ensures ∙ told_by x.text.now x.out.now x.told.now s.result (Sheet c.in-Sheet.n) _ (omega arith) s.ensures c.in-Sheet.is
+    ap (lent_by 0 s.new.out) c.tell_one.ensures ∙ told_by x.text.now x.out.now x.told.now s.result (Sheet c.in-Sheet.n) _ (omega arith) s.ensures c.in-Sheet.is
 
 pub returns-in-Fault : goal.returns-in-Fault
 returns-in-Fault c =
     let x = c.args in
     let s = c.sheet_of in
-        ap (lent_by c.in-Fault.number s.new.out) c.tell_three.ensures ∙ told_by x.text.now x.out.now x.told.now s.result (Fault c.in-Fault.line c.in-Fault.number c.in-Fault.start c.in-Fault.length) _ (omega arith) s.ensures c.in-Fault.is
+    ap (lent_by c.in-Fault.number s.new.out) c.tell_three.ensures ∙ told_by x.text.now x.out.now x.told.now s.result (Fault c.in-Fault.line c.in-Fault.number c.in-Fault.start c.in-Fault.length) _ (omega arith) s.ensures c.in-Fault.is
 
 pub returns-in-Short : goal.returns-in-Short
 returns-in-Short c =
