@@ -1,4 +1,4 @@
-/* A C `main` for the programs, with an exit status, which a program of Rattle's own cannot set: 0, or 1 where a read or a write failed; of
+/* A C `main` for the programs, with an exit status, where the programs themselves always end with 0: 0, or 1 where a read or a write failed; of
  * a text with a fault and of a sheet without a text, too. MAIN is nuqsillay_sheet_main (libsheet_print.a), nuqsillay_strides_main
  * (libstride_print.a), nuqsillay_typed_main or nuqsillay_type_sheet_main (libtyped_print.a) or nuqsillay_sheet_text_main
  * (libtext_print.a).
