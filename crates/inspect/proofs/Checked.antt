@@ -135,8 +135,12 @@ total_within q d = go q.classic refl
     go true c = omega (arith, total-classic q c, most)
     go false c = omega (arith, total-holds q c, most)
 
-pub whole_within : (w n : ℕ) → w ≤ 100 → n ≤ 1_600_000 → w * n ≤ 160_000_000
+pub whole_within : (w n : ℕ) → w ≤ 100 → n ≤ 200_000 → w * n ≤ 20_000_000
 whole_within w n h k = mul-le-mul h k
+
+-- the same of a relay's hits
+pub pooled_within : (w n : ℕ) → w ≤ 100 → n ≤ 1_600_000 → w * n ≤ 160_000_000
+pooled_within w n h k = mul-le-mul h k
 
 pub misses-given
     : (i : Inspect) (b : Bool) (n t r : ℕ) → i.misses ≡ given b n → b ≡ true → t ≡ total_hits i → r ≡ min n t → r ≡ misses i

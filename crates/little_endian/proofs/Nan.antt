@@ -6,7 +6,7 @@ use Prim.Native.Nat.{ℕ, ◌/◌, ◌%◌, ◌≤◌, ◌<◌}
 use native.Mathlib.Omega.{arith}
 use lib.Dec.{T, eqb, eqb→eq}
 use borrow.Author.Tests.{eq-eqb, ne_eqb}
-use lib.Ieee.{nan, binary64, of_bits, of_fields, nan_bits}
+use lib.Ieee.{nan, binary64, div, of_bits, of_fields, nan_bits}
 
 not_both : (p q : Bool) → (T p → q ≡ false) → T (not (p && q))
 not_both true q h = rw (h tt) tt
@@ -25,3 +25,8 @@ a_nan b h =
     let e : b % 0x8000000000000000 / 0x10000000000000 ≡ 2047 = omega arith in
     let n : eqb (b % 0x10000000000000) 0 ≡ false = ne_eqb (b % 0x10000000000000) 0 (λ z. omega arith) in
     rw (e, n)
+
+-- what zero by zero gives
+pub zero_by_zero : (b : ℕ) → 0x7ff0000000000000 < b % 0x8000000000000000 → div binary64 (of_bits binary64 0) (of_bits binary64 0) ≡ of_bits binary64 b
+unfolding div of_bits
+zero_by_zero b h = a_nan b h

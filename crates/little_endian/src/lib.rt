@@ -37,6 +37,7 @@ pub fn u64_at(s: &[u8], at: usize) -> u64
 }
 
 // The f64 of a bit pattern, at a NaN's pattern too: every NaN is one value to the contracts.
+#[tactic(auto, using(crate::proofs::Nan::no_nan, crate::proofs::Nan::zero_by_zero))]
 pub fn f64_of(bits: u64) -> f64
     ensures { result ≡ of_bits binary64 bits }
 {

@@ -54,13 +54,16 @@ pub fn put_next(text: &mut [u8], at: usize, n: u32) -> usize
     put_decimal(text, next, n)
 }
 
+// The first word that stands for a negative number.
+const FIRST_NEGATIVE: u32 = 0x8000_0000;
+
 // The signed number that a word of 32 bits stands for: at most ten digits and a minus sign.
 pub fn put_signed(text: &mut [u8], at: usize, word: u32) -> usize
     requires { at + 11 ≤ length text.old }
     ensures appended { Appended text.old at text.new result (signed_text word) }
     ensures upper_bound { result ≤ at + 11 }
 {
-    if word < 0x8000_0000 {
+    if word < FIRST_NEGATIVE {
         put_decimal(text, at, word)
     } else {
         let next = put_byte(text, at, b'-');

@@ -16,6 +16,7 @@ pub enum Scoring {
 }
 
 // Whether weights fall from at most 100 to at least 1: strictly, but for the first two, which may be equal.
+#[tactic(auto, unfolding(nearest_laws::specs::Nearest::weighs))]
 pub fn is_weighting(weights: Weights) -> bool
     ensures { result ≡ weighs (weights_of weights) }
 {
