@@ -12,7 +12,7 @@ const ROWS: usize = 64;
 /// The two places where the table stands, each with the line before its first row.
 const PLACES: [(&str, &str); 2] = [
     ("src/lib.rt", "const STRIDES: [[u8; 5]; 64] = ["),
-    ("specs/Strides.antt", "strideTable ="),
+    ("specs/Strides.antt", "stride_table ="),
 ];
 
 /// The places whose counts these presence bits leave out.
