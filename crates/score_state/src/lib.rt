@@ -14,7 +14,7 @@ use units::{Hits, Points};
 pub const CAP: u32 = 1_000_000;
 
 // The six judgement counts: `ManiaHitResults`.
-#[derive(Clone, Copy, PartialEq, Eq)]
+#[derive(Clone, Copy, Default, PartialEq, Eq)]
 pub struct HitResults {
     pub n320: u32,
     pub n300: u32,
