@@ -7,7 +7,7 @@ ghost use Rattle.score_state.specs.Lent.{six_counts};
 ghost use Rattle.score_state.specs.Accuracy.{accuracy_answer};
 ghost use Rattle.accuracy_call.specs.Value.{value_or};
 
-use score_state::{AccuracyAnswer, HitResults};
+use score_state::HitResults;
 
 // 0 with the accuracy behind value, or 10.
 pub fn accuracy(
@@ -32,10 +32,10 @@ pub fn accuracy(
         misses,
     };
     match score_state::accuracy(counts, classic) {
-        AccuracyAnswer::Is(x) => {
+        Ok(x) => {
             *value = x;
             0
         }
-        AccuracyAnswer::OverCap => 10,
+        Err(refusal) => refusal.into(),
     }
 }

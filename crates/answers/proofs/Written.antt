@@ -4,31 +4,32 @@ use mathlib.Core.Path.{◌≡◌, refl, ap, sym, ◌∙◌}
 use mathlib.Core.List.{List, [], ◌∷◌}
 use Prim.Native.Nat.{ℕ, zero, suc, ◌+◌, ◌*◌, ◌<◌}
 use native.Mathlib.Omega.{arith}
-use lib.IntN.{ℤ}
 use lib.ListN.{length, get_or}
 use Rattle.lists.specs.Lists.{put}
 use Rattle.little_endian.specs.Bytes.{u32_at, bytes4}
 use Rattle.little_endian.proofs.Put.{bytes4_back}
-use Rattle.score_state.specs.declared.HitResults.{HitResults}
+use Rattle.std.specs.Prelude.{Result, Ok, Err}
+use Rattle.refusals.specs.declared.Refusal.{Refusal}
+use Rattle.refusals.specs.Refusal.{number_of}
 use Rattle.score_state.specs.Answer.{Answer, status_of}
 use Rattle.points_left.specs.Left.{bits_of}
 use Rattle.generated.specs.Generated.{generated_of}
 use Rattle.generated.specs.declared.Generated.{Generated}
-use Rattle.generated.specs.declared.Generated.TheVariants.{Counts, Refused}
 use Rattle.answers.specs.Answers.{field_bytes, answer_bytes, value, eight_at}
 
 pub put-counts
-    : (s : List ℕ) (at : ℕ) (g : Generated) (c : HitResults) (tried : ℕ) (left : ℤ) (bits : ℕ) (out : List ℕ) → g ≡ Counts c tried left → bits ≡ bits_of left
-    → out ≡ put s at (field_bytes 0 (c.n320 ∷ c.n300 ∷ c.n200 ∷ c.n100 ∷ c.n50 ∷ c.misses ∷ tried ∷ bits ∷ [])) → out ≡ put s at (answer_bytes (generated_of g))
+    : (s : List ℕ) (at : ℕ) (r : Result Generated Refusal) (g : Generated) (bits : ℕ) (out : List ℕ) → r ≡ Ok g → bits ≡ bits_of g.left
+    → out ≡ put s at (field_bytes 0 (g.counts.n320 ∷ g.counts.n300 ∷ g.counts.n200 ∷ g.counts.n100 ∷ g.counts.n50 ∷ g.counts.misses ∷ g.tried ∷ bits ∷ []))
+    → out ≡ put s at (answer_bytes (generated_of r))
 unfolding answer_bytes
-put-counts s at g c tried left bits out e eb p = p ∙ rw eb refl ∙ ap (λ (x : Generated). put s at (answer_bytes (generated_of x))) (sym e)
+put-counts s at r g bits out e eb p = p ∙ rw eb refl ∙ ap (λ (x : Result Generated Refusal). put s at (answer_bytes (generated_of x))) (sym e)
 
 -- a refused answer has eight zeros
 pub Put-refused
-    : (s : List ℕ) (at : ℕ) (g : Generated) (n : ℕ) (out : List ℕ) → g ≡ Refused n
-    → out ≡ put s at (field_bytes n (0 ∷ 0 ∷ 0 ∷ 0 ∷ 0 ∷ 0 ∷ 0 ∷ 0 ∷ [])) → out ≡ put s at (answer_bytes (generated_of g))
+    : (s : List ℕ) (at : ℕ) (r : Result Generated Refusal) (f : Refusal) (n : ℕ) (out : List ℕ) → r ≡ Err f → n ≡ number_of f
+    → out ≡ put s at (field_bytes n (0 ∷ 0 ∷ 0 ∷ 0 ∷ 0 ∷ 0 ∷ 0 ∷ 0 ∷ [])) → out ≡ put s at (answer_bytes (generated_of r))
 unfolding answer_bytes field_bytes
-Put-refused s at g n out e p = p ∙ ap (λ (x : Generated). put s at (answer_bytes (generated_of x))) (sym e)
+Put-refused s at r f n out e en p = p ∙ rw en refl ∙ ap (λ (x : Result Generated Refusal). put s at (answer_bytes (generated_of x))) (sym e)
 
 pub length-answer : (a : Answer (List ℕ)) → length (answer_bytes a) ≡ 36
 unfolding answer_bytes field_bytes bytes4

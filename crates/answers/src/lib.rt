@@ -7,6 +7,7 @@ ghost use Rattle.generated.specs.Generated.{generated_of};
 ghost use Rattle.answers.specs.Answers.{field_bytes, answer_bytes};
 
 use generated::Generated;
+use refusals::Refusal;
 use score_state::HitResults;
 
 // The nine fields of an answer, side by side, left by its bits.
@@ -25,25 +26,13 @@ fn put_fields(out: &mut [u8], at: usize, status: u32, c: HitResults, tried: u32,
     little_endian::put_u32(out, at + 32, left);
 }
 
-// The 36 bytes of an answer.
-pub fn put_answer(out: &mut [u8], at: usize, answer: Generated)
+// The 36 bytes of an answer: of a refusal its number, and zeros.
+pub fn put_answer(out: &mut [u8], at: usize, answer: Result<Generated, Refusal>)
     requires { at + 36 ≤ length out.old }
     ensures { out.new ≡ put out.old at (answer_bytes (generated_of answer)) }
 {
     match answer {
-        Generated::Counts(counts, tried, left) => {
-            put_fields(out, at, 0, counts, tried, points_left::bits_of(left))
-        }
-        Generated::Refused(status) => {
-            let none = HitResults {
-                n320: 0,
-                n300: 0,
-                n200: 0,
-                n100: 0,
-                n50: 0,
-                misses: 0,
-            };
-            put_fields(out, at, status, none, 0, 0)
-        }
+        Ok(g) => put_fields(out, at, 0, g.counts, g.tried, points_left::bits_of(g.left)),
+        Err(refusal) => put_fields(out, at, refusal.into(), HitResults::default(), 0, 0),
     }
 }

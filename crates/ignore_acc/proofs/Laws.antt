@@ -2,7 +2,7 @@
 -- Assumes nothing.
 use mathlib.Core.Path.{◌≡◌, refl, ap, ◌∙◌}
 use mathlib.Core.Option.{Option, none, some}
-use Prim.Native.Nat.{ℕ, ◌+◌, ◌-◌, ◌≤◌, zero-le}
+use Prim.Native.Nat.{ℕ, ◌+◌, ◌≤◌, zero-le}
 use native.Mathlib.Omega.{arith}
 use Rattle.score_state.specs.declared.HitResults.{HitResults}
 use Rattle.score_state.specs.Given.{or}
@@ -110,3 +110,7 @@ ignore-sum i =
     either-sum i.priority (best_case i (remain i) (misses i)) (worst_case i (remain i) (misses i)) (total_hits i)
     (best-sum i (remain i) (misses i) ∙ whole i)
     (worst-sum i (remain i) (misses i) ∙ whole i)
+
+-- what equals the definition's counts sums to the same
+pub sum_of : (x : HitResults) (i : Inspect) → x ≡ ignore_acc i → Points.total_hits x ≡ total_hits i
+sum_of x i e = ap Points.total_hits e ∙ ignore-sum i

@@ -11,10 +11,10 @@ use lib.Dec.{T, ltb}
 use lib.Ieee.{Float, le}
 use Rattle.rounding.specs.Round.{zero64, one64}
 use Rattle.score_state.specs.Accuracy.{cap}
-use Rattle.score_state.specs.Given.{or}
+use Rattle.score_state.specs.Given.{option_of, or}
 use Rattle.score_state.proofs.Caps.{or_left, or_right}
 use Rattle.inspect.specs.Presence.{given}
-use Rattle.inspect.specs.Inspect.{Inspect, inspect_of, acc_of, holds_of, shortened, total_hits, capped_misses, misses, remain}
+use Rattle.inspect.specs.Inspect.{Inspect, inspect_of, acc_of, shortened, total_hits, capped_misses, misses, remain}
 use Rattle.inspect.proofs.Total.{total-classic, total-holds}
 use Rattle.inspect.specs.declared.Accuracy.{Accuracy}
 use Rattle.inspect.specs.declared.Accuracy.TheVariants.{Given}
@@ -128,7 +128,7 @@ both_within i h k = omega (arith, shortened-le i.passed i.objects, shortened-le 
 pub total_within : (q : Query) → Domain q → total_hits (inspect_of q) ≤ 200_000
 total_within q d = go q.classic refl
   where
-    most : shortened (inspect_of q).passed q.chart.n_objects + shortened (holds_of q.holds) q.chart.n_hold_notes ≤ 200_000
+    most : shortened (inspect_of q).passed q.chart.n_objects + shortened (option_of q.holds) q.chart.n_hold_notes ≤ 200_000
     most = both_within (inspect_of q) d.objects d.holds
 
     go : (b : Bool) → q.classic ≡ b → total_hits (inspect_of q) ≤ 200_000

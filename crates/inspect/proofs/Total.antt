@@ -3,8 +3,9 @@
 use mathlib.Core.Path.{◌≡◌}
 use mathlib.Core.Bool.{true, false}
 use Prim.Native.Nat.{ℕ, ◌+◌, min}
-use Rattle.inspect.specs.Inspect.{inspect_of, holds_of, shortened, total_hits}
-use Rattle.inspect.specs.declared.Holds.TheVariants.{InFull, Passed}
+use Rattle.score_state.specs.Given.{option_of}
+use Rattle.inspect.specs.Inspect.{inspect_of, shortened, total_hits}
+use Rattle.std.specs.Prelude.{Some, None}
 use Rattle.inspect.specs.declared.Query.{Query}
 
 module _ (q : Query) where
@@ -16,14 +17,14 @@ module _ (q : Query) where
   unfolding total_hits
   total-classic c = rw c
 
-  pub total-holds : q.classic ≡ false → total_hits (inspect_of q) ≡ objects + shortened (holds_of q.holds) q.chart.n_hold_notes
+  pub total-holds : q.classic ≡ false → total_hits (inspect_of q) ≡ objects + shortened (option_of q.holds) q.chart.n_hold_notes
   unfolding total_hits
   total-holds c = rw c
 
-  pub total_reached : (n : ℕ) → q.classic ≡ false → q.holds ≡ Passed n → total_hits (inspect_of q) ≡ objects + min n q.chart.n_hold_notes
+  pub total_reached : (n : ℕ) → q.classic ≡ false → q.holds ≡ Some n → total_hits (inspect_of q) ≡ objects + min n q.chart.n_hold_notes
   unfolding total_hits shortened
   total_reached n c h = rw (c, h)
 
-  pub total_in_full : q.classic ≡ false → q.holds ≡ InFull → total_hits (inspect_of q) ≡ objects + q.chart.n_hold_notes
+  pub total_in_full : q.classic ≡ false → q.holds ≡ None → total_hits (inspect_of q) ≡ objects + q.chart.n_hold_notes
   unfolding total_hits shortened
   total_in_full c h = rw (c, h)

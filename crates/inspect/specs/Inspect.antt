@@ -5,11 +5,12 @@
 -- one more optional number."
 use Rattle.std.specs.Prelude.{ℕ, zero, suc, ◌+◌, ◌-◌, min, Bool, true, false, cond, List, [], ◌∷◌, eqb, Float}
 use Rattle.std.proofs.Math.Option.{Option, none, some}
+use Rattle.std.specs.Prelude.{Some, None}
+use Rattle.std.specs.declared.option.Option as Code
+use Rattle.score_state.specs.Given.{option_of}
 use Rattle.inspect.specs.Presence.{has, given}
 use Rattle.inspect.specs.declared.Accuracy.{Accuracy}
 use Rattle.inspect.specs.declared.Accuracy.TheVariants.{Given, Absent}
-use Rattle.inspect.specs.declared.Holds.{Holds}
-use Rattle.inspect.specs.declared.Holds.TheVariants.{InFull, Passed}
 use Rattle.inspect.specs.declared.Query.{Query}
 
 pub data HitResultPriority : Type 0 where
@@ -46,18 +47,13 @@ abbrev pub acc_by : Bool → Float → Accuracy
 acc_by true acc = Given acc
 acc_by false acc = Absent
 
--- how many holds were passed, if the query says it
-abbrev pub holds_of : Holds → Option ℕ
-holds_of InFull = none
-holds_of (Passed n) = some n
-
 abbrev pub inspect_of : Query → Inspect
 inspect_of q =
     record {
       objects = q.chart.n_objects;
       holds = q.chart.n_hold_notes;
       passed = given (has q.presence 128) q.passed;
-      holds_passed = holds_of q.holds;
+      holds_passed = option_of q.holds;
       classic = q.classic;
       priority = priority_of q.priority;
       n320 = given (has q.presence 1) q.n320;
@@ -95,5 +91,5 @@ unfoldable pub remain : Inspect → ℕ
 remain i = total_hits i - misses i
 
 -- the holds passed, if they are given: a number other than 0 says so
-abbrev pub holds_by : ℕ → ℕ → Holds
-holds_by given n = cond (eqb given 0) InFull (Passed n)
+abbrev pub holds_by : ℕ → ℕ → Code.Option ℕ
+holds_by given n = cond (eqb given 0) None (Some n)

@@ -1,18 +1,19 @@
 // inspect.rs: a query, its total hits, misses and remaining hits, the rounded target, and the checks that every method shares.
 #![tactic(auto)]
 
-ghost use Rattle.std.specs.Prelude.{◌≡◌, cond, ◌≤◌, ◌<◌, ◌*◌, T};
-ghost use Rattle.std.specs.Float.Ieee as Ieee;
-ghost use Rattle.rounding.specs.Round.{zero64, one64};
+ghost use Rattle.std.specs.Prelude.{◌≡◌, cond, ◌≤◌, ◌<◌, ◌*◌};
 ghost use Rattle.units.specs.Limits.{most_hits, most_pooled_hits, most_weight};
-ghost use Rattle.inspect.specs.Presence as Presence;
-ghost use Rattle.inspect.specs.Presence.{has, lacking, missing_of, unwrap_or_zero};
+ghost use Rattle.score_state.specs.Answer.{status_of, answer_of};
+ghost use Rattle.score_state.specs.Given.{option_of};
+ghost use Rattle.inspect.specs.Presence.{has, given, lacking, missing_of, unwrap_or_zero};
 ghost use Rattle.inspect.specs.Inspect as Inspect;
-ghost use Rattle.inspect.specs.Inspect.{inspect_of, acc_of, acc_by, holds_of, holds_by};
+ghost use Rattle.inspect.specs.Inspect.{inspect_of, acc_of, acc_by, holds_by};
 ghost use Rattle.inspect.specs.Target as Target;
 ghost use Rattle.inspect.specs.Checks.{chart_over, unknown_code, over_cap, count_over, acc_outside, stop_of, Domain};
 
-use score_state::HitResults;
+use refusals::Refusal;
+use rounding::Acc;
+use score_state::{CAP, HitResults};
 use units::{Hits, Points};
 
 // The attributes of a chart.
@@ -22,21 +23,16 @@ pub struct Chart {
     pub n_hold_notes: u32,
 }
 
-// The accuracy is either given with its f64 or absent.
+// The accuracy is either given with its f64 or absent. It is no `Option`: document 01, Language forms, names this enum.
 #[derive(Clone, Copy)]
 pub enum Accuracy {
     Given(f64),
     Absent,
 }
 
-// The hold notes of a play: all that the chart has, or, where it was broken off, how many were passed.
-#[derive(Clone, Copy)]
-pub enum Holds {
-    InFull,
-    Passed(u32),
-}
-
-// A query. presence has document 01's bits, from n320 (1) to passed (128); acc's own bit is not looked at, `Accuracy` says it.
+// A query. presence has document 01's bits, from n320 (1) to passed (128); acc's own bit is not looked at, `Accuracy` says it. The counts stay
+// numbers beside those bits, and method and priority numbers: so a direct call takes them (document 01, Option, Vec and the trait recast), and
+// check 8 is of the numbers. holds is how many holds were passed, where the play was broken off; without it they count in full.
 #[derive(Clone, Copy)]
 pub struct Query {
     pub chart: Chart,
@@ -51,7 +47,7 @@ pub struct Query {
     pub n50: u32,
     pub misses: u32,
     pub passed: u32,
-    pub holds: Holds,
+    pub holds: Option<u32>,
     pub acc: Accuracy,
 }
 
@@ -74,14 +70,10 @@ pub const PASSED: u8 = 0b1000_0000;
 
 // The holds passed where they are given: 0 says that they are not, as in a row and in C's bool. A bool here would be masked anew on
 // the stack, and C's call could not hand its arguments on as they stand.
-pub fn holds_of(given: u8, n: u32) -> Holds
+pub fn holds_of(given: u8, n: u32) -> Option<u32>
     ensures { result ≡ holds_by given n }
 {
-    if given == 0 {
-        Holds::InFull
-    } else {
-        Holds::Passed(n)
-    }
+    if given == 0 { None } else { Some(n) }
 }
 
 // The accuracy where it is given.
@@ -133,6 +125,18 @@ pub fn is_given(presence: u8, place: u8) -> bool
     presence / place % 2 == 1
 }
 
+// A number that is given by the bit with this place value, or missing.
+pub fn given(presence: u8, place: u8, n: u32) -> Option<u32>
+    requires { 0 < place }
+    ensures { option_of result ≡ given (has presence place) n }
+{
+    if is_given(presence, place) {
+        Some(n)
+    } else {
+        None
+    }
+}
+
 // One of two numbers, as the count with this place value is missing or given.
 pub fn pick(presence: u8, place: u8, missing: u32, given: u32) -> u32
     requires { 0 < place }
@@ -159,24 +163,14 @@ pub fn unwrap_or_zero(presence: u8, counts: HitResults) -> HitResults
     }
 }
 
-// min(passed, n_objects), and no cap where passed is missing.
-fn shortened(given: bool, passed: Hits, objects: Hits) -> Hits
-    ensures { (result.0 ≡ Inspect.shortened (Presence.given given passed.0) objects.0) × (result.0 ≤ objects.0) }
+// The smaller of a number passed and all there is: all of it where no number is given.
+#[tactic(auto, unfolding(crate::specs::Inspect::shortened))]
+fn shortened(passed: Option<u32>, all: Hits) -> Hits
+    ensures { (result.0 ≡ Inspect.shortened (option_of passed) all.0) × (result.0 ≤ all.0) }
 {
-    if given {
-        passed.least(objects)
-    } else {
-        objects
-    }
-}
-
-// The smaller of the holds passed and n_hold_notes, and no cap where the holds count in full.
-fn reached(holds: Holds, all: Hits) -> Hits
-    ensures { (result.0 ≡ Inspect.shortened (holds_of holds) all.0) × (result.0 ≤ all.0) }
-{
-    match holds {
-        Holds::Passed(n) => Hits(n).least(all),
-        Holds::InFull => all,
+    match passed {
+        Some(n) => Hits(n).min(all),
+        None => all,
     }
 }
 
@@ -185,27 +179,26 @@ pub fn total_hits(q: Query) -> Hits
     requires { Domain q }
     ensures { (result.0 ≡ Inspect.total_hits (inspect_of q)) × (result.0 ≤ most_hits) }
 {
-    let passed = is_given(q.presence, PASSED);
-    let objects = shortened(passed, Hits(q.passed), Hits(q.chart.n_objects));
-    let holds = q.holds;
-    let hold_notes = reached(holds, Hits(q.chart.n_hold_notes));
+    let passed = given(q.presence, PASSED, q.passed);
+    let objects = shortened(passed, Hits(q.chart.n_objects));
+    let hold_notes = shortened(q.holds, Hits(q.chart.n_hold_notes));
     if q.classic {
         objects
     } else {
-        objects.plus(hold_notes)
+        objects + hold_notes
     }
 }
 
 // The given misses, at most the total hits.
+#[tactic(auto, unfolding(crate::specs::Inspect::misses, crate::specs::Inspect::capped_misses))]
 pub fn misses(q: Query) -> Hits
     requires { Domain q }
     ensures { (result.0 ≡ Inspect.misses (inspect_of q)) × (result.0 ≤ Inspect.total_hits (inspect_of q)) }
 {
     let total = total_hits(q);
-    if is_given(q.presence, MISSES) {
-        Hits(q.misses).least(total)
-    } else {
-        Hits(0)
+    match given(q.presence, MISSES, q.misses) {
+        Some(n) => Hits(n).min(total),
+        None => Hits(0),
     }
 }
 
@@ -214,104 +207,89 @@ pub fn remain(q: Query) -> Hits
     requires { Domain q }
     ensures { (result.0 ≡ Inspect.remain (inspect_of q)) × (result.0 ≤ most_hits) }
 {
-    let total = total_hits(q);
-    let missed = misses(q);
-    total.minus(missed)
+    total_hits(q) - misses(q)
 }
 
 // The rounded target: acc times (w times total), one f64 product, to the nearest whole number. total is a play's, or a relay's.
-pub fn target_of(acc: f64, w: u32, total: Hits) -> Points
-    requires t_1 { T (Ieee.le zero64 acc) }
-    requires t_2 { T (Ieee.le acc one64) }
-    requires w_le_most_weight { (w ≤ most_weight) × (total.0 ≤ most_pooled_hits) }
-    ensures { (result.0 ≡ Target.target acc w total.0) × (result.0 ≤ w * total.0) }
+pub fn target_of(acc: Acc, w: u32, total: Hits) -> Points
+    requires { (w ≤ most_weight) × (total.0 ≤ most_pooled_hits) }
+    ensures { (result.0 ≡ Target.target acc.value w total.0) × (result.0 ≤ w * total.0) }
 {
-    total.times(w).rounded_product(acc)
+    (total * w).rounded_product(acc)
 }
+
+// The most objects and the most hold notes of a chart.
+const CHART_LIMIT: u32 = 100_000;
 
 // Check 7, of a chart's two fields. The chart itself is not handed over: its copy would be read as one number of 64 bits right
 // after its halves were written, and the processor waits there.
+#[tactic(auto, unfolding(crate::specs::Checks::chart_over))]
 pub fn chart_over(objects: u32, holds: u32) -> bool
     ensures { result ≡ chart_over (record { n_objects = objects; n_hold_notes = holds }) }
 {
-    if objects > 100_000 {
-        return true;
-    }
-    holds > 100_000
+    objects > CHART_LIMIT || holds > CHART_LIMIT
 }
 
 // Check 8; classic is a boolean here.
+#[tactic(auto, unfolding(crate::specs::Checks::unknown_code))]
 fn unknown_code(method: u8, priority: u8) -> bool
     ensures { result ≡ unknown_code method priority }
 {
-    if method > 3 {
-        return true;
-    }
-    priority > 1
+    method > 3 || priority > 1
 }
 
 // A given count over the cap.
-fn over_cap(given: bool, n: u32) -> bool
-    ensures { result ≡ over_cap (Presence.given given n) }
+#[tactic(auto, unfolding(crate::specs::Checks::over_cap))]
+fn over_cap(given: Option<u32>) -> bool
+    ensures { result ≡ over_cap (option_of given) }
 {
-    if given { n > 1_000_000 } else { false }
+    match given {
+        Some(n) => n > CAP,
+        None => false,
+    }
 }
 
 // Check 10.
+#[tactic(auto, unfolding(crate::specs::Checks::count_over))]
 fn count_over(q: Query) -> bool
     ensures { result ≡ count_over (inspect_of q) }
 {
     let p = q.presence;
-    if over_cap(is_given(p, N320), q.n320) {
-        return true;
-    }
-    if over_cap(is_given(p, N300), q.n300) {
-        return true;
-    }
-    if over_cap(is_given(p, N200), q.n200) {
-        return true;
-    }
-    if over_cap(is_given(p, N100), q.n100) {
-        return true;
-    }
-    if over_cap(is_given(p, N50), q.n50) {
-        return true;
-    }
-    over_cap(is_given(p, MISSES), q.misses)
+    over_cap(given(p, N320, q.n320))
+        || over_cap(given(p, N300, q.n300))
+        || over_cap(given(p, N200, q.n200))
+        || over_cap(given(p, N100, q.n100))
+        || over_cap(given(p, N50, q.n50))
+        || over_cap(given(p, MISSES, q.misses))
 }
 
 // Check 11: a comparison with NaN is false, so NaN is outside; -0.0 is in.
+#[tactic(auto, unfolding(crate::specs::Checks::acc_outside))]
 pub fn acc_outside(acc: Accuracy) -> bool
     ensures { result ≡ acc_outside (acc_of acc) }
 {
     match acc {
-        Accuracy::Given(x) => {
-            if x >= 0.0 {
-                if x <= 1.0 { false } else { true }
-            } else {
-                true
-            }
-        }
+        Accuracy::Given(x) => !(x >= 0.0 && x <= 1.0),
         Accuracy::Absent => false,
     }
 }
 
-// The checks that every method shares, in order 7, 8, 10, 11: the first that stops the query, or 0.
-pub fn stop_of(q: Query) -> u32
-    ensures { result ≡ stop_of q }
+// The checks that every method shares, in order 7, 8, 10, 11: the first that stops the query is told.
+#[tactic(auto, unfolding(crate::specs::Checks::stop_of))]
+pub fn check(q: Query) -> Result<(), Refusal>
+    ensures { status_of (answer_of result) ≡ stop_of q }
 {
-    let acc = q.acc;
     if chart_over(q.chart.n_objects, q.chart.n_hold_notes) {
-        return 7;
+        return Err(Refusal::ChartOver);
     }
     if unknown_code(q.method, q.priority) {
-        return 8;
+        return Err(Refusal::UnknownCode);
     }
     if count_over(q) {
-        return 10;
+        return Err(Refusal::CountOver);
     }
-    if acc_outside(acc) {
-        return 11;
+    if acc_outside(q.acc) {
+        return Err(Refusal::AccOutside);
     }
-    0
+    Ok(())
 }

@@ -1,11 +1,12 @@
--- Nothing put is nothing changed, and two puts side by side are one.
+-- Nothing put is nothing changed, two puts side by side are one, and a part written anew is a put.
 -- Assumes nothing.
-use mathlib.Core.Path.{◌≡◌, ap, ◌∙◌, subst}
+use mathlib.Core.Path.{◌≡◌, ap, sym, ◌∙◌, subst}
 use mathlib.Core.List.{List, [], ◌++◌, append_assoc, append-nil}
 use Prim.Native.Nat.{ℕ, ◌+◌, ◌≤◌}
 use native.Mathlib.Nat.{add-zero}
 use native.Mathlib.Omega.{arith}
 use lib.ListN.{length, take, drop, length-append, take-append-drop}
+use borrow.Rule.Slice.PartMut.{put_mid}
 use lib.Seq.{take_at, drop-append-add, drop-drop, length-take-le}
 use Rattle.lists.specs.Lists.{put}
 
@@ -30,3 +31,8 @@ put-put s i vs ws h =
 -- a put at the end of a put
 pub next : (s s1 s2 : List ℕ) (i k : ℕ) (vs ws : List ℕ) → k ≡ i + length vs → k + length ws ≤ length s → s1 ≡ put s i vs → s2 ≡ put s1 k ws → s2 ≡ put s i (vs ++ ws)
 next s s1 s2 i k vs ws e h p q = q ∙ rw (p, e) (put-put s i vs ws (omega arith))
+
+-- a part of a list that was written anew, as a slice's `copy_from_slice` leaves it, is a put
+pub part_put : (i k : ℕ) (s part vs : List ℕ) → part ≡ vs → k ≡ length vs → put_mid i k s part ≡ put s i vs
+unfolding put
+part_put i k s part vs e h = rw (e, drop-drop k i s, h) (sym (append_assoc (take i s) vs (drop (i + length vs) s)))

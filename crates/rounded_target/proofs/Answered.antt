@@ -1,11 +1,11 @@
 -- What `rounded_target` answers, from the facts that the code has of its calls. Assumes nothing.
 use mathlib.Core.Path.{◌≡◌, sym, ap, ◌∙◌}
-use mathlib.Core.Bool.{Bool}
 use mathlib.Core.List.{[], ◌∷◌}
 use mathlib.Core.Option.{Option, some}
-use Prim.Native.Nat.{ℕ, ◌≤◌, ◌<◌}
+use Prim.Native.Nat.{ℕ, ◌<◌}
 use native.Mathlib.Omega.{arith}
-use borrow.Author.Tests.{eq-eqb, ne_eqb}
+use borrow.Author.Tests.{ne_eqb}
+use lib.Dec.{eqb}
 use lib.Ieee.{Float}
 use Rattle.score_state.specs.Points.{perfect_weight}
 use Rattle.score_state.specs.Answer.{refused, worked, unless}
@@ -20,17 +20,16 @@ pub target-refused : (q : Query) (n : ℕ) → n ≡ stop_of q → 0 < n → ref
 unfolding target_answer
 target-refused q n e h = rw (← e, ne_eqb n 0 (λ (z : n ≡ 0). omega arith))
 
-pub target-missing : (q : Query) (n : ℕ) → n ≡ stop_of q → n ≤ 0 → q.acc ≡ Absent → refused 13 ≡ target_answer q
+pub target-missing : (q : Query) → 0 ≡ stop_of q → q.acc ≡ Absent → refused 13 ≡ target_answer q
 unfolding target_answer
-target-missing q n e h a = let z : n ≡ 0 = omega arith in rw (eq-eqb (stop_of q) 0 (sym e ∙ z), a)
+target-missing q e a = rw (← e, a)
 
 pub target-worked
-    : (q : Query) (n : ℕ) (acc : Float) (t m r w p : ℕ) → n ≡ stop_of q → n ≤ 0 → q.acc ≡ Given acc
+    : (q : Query) (acc : Float) (t m r w p : ℕ) → 0 ≡ stop_of q → q.acc ≡ Given acc
     → t ≡ total_hits (inspect_of q) → m ≡ misses (inspect_of q) → r ≡ remain (inspect_of q) → w ≡ perfect_weight q.classic → p ≡ target acc w t
     → worked (t ∷ m ∷ r ∷ p ∷ []) ≡ target_answer q
 unfolding target_answer
-target-worked q n acc t m r w p e h a et em er ew ep =
-    let z : n ≡ 0 = omega arith in
+target-worked q acc t m r w p e a et em er ew ep =
     let i = inspect_of q in
     let v : worked (t ∷ m ∷ r ∷ p ∷ []) ≡ target_values i (some acc) = rw (ep, ew, et, em, er) in
-    v ∙ ap (λ (o : Option Float). target_values i o) (sym (ap acc_of a)) ∙ sym (ap (λ (b : Bool). unless b (stop_of q) (target_values i i.acc)) (eq-eqb (stop_of q) 0 (sym e ∙ z)))
+    v ∙ ap (λ (o : Option Float). target_values i o) (sym (ap acc_of a)) ∙ ap (λ (n : ℕ). unless (eqb n 0) n (target_values i i.acc)) e

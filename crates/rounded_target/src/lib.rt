@@ -6,6 +6,8 @@ ghost use Rattle.score_state.specs.Lent.{lent, handed};
 ghost use Rattle.rounded_target.specs.Answers.{answer_of, target_answer, target_query};
 
 use inspect::{Accuracy, Chart, Query};
+use refusals::Refusal;
+use rounding::Acc;
 use units::{Hits, Points};
 
 // What is filed beside a split.
@@ -17,34 +19,22 @@ pub struct RoundedTarget {
     pub target: Points,
 }
 
-// The rounded target with the hits it is of, or the number of the check that stops the query.
-#[derive(Clone, Copy)]
-pub enum TargetAnswer {
-    Is(RoundedTarget),
-    Refused(u32),
-}
-
 // The rounded target of a query: refused by 7, 8, 10 and 11, and by 13 without an accuracy.
-pub fn rounded_target(q: Query) -> TargetAnswer
+pub fn rounded_target(q: Query) -> Result<RoundedTarget, Refusal>
     ensures { answer_of result ≡ target_answer q }
 {
-    let stop = inspect::stop_of(q);
-    if stop > 0 {
-        return TargetAnswer::Refused(stop);
-    }
-    let a = q.acc;
-    match a {
-        Accuracy::Given(acc) => {
-            let total = inspect::total_hits(q);
-            TargetAnswer::Is(RoundedTarget {
-                total_hits: total,
-                misses: inspect::misses(q),
-                remain: inspect::remain(q),
-                target: inspect::target_of(acc, score_state::perfect_weight(q.classic), total),
-            })
-        }
-        Accuracy::Absent => TargetAnswer::Refused(13),
-    }
+    inspect::check(q)?;
+    let Accuracy::Given(acc) = q.acc else {
+        return Err(Refusal::AccMissing);
+    };
+    let total_hits = inspect::total_hits(q);
+    let w = score_state::perfect_weight(q.classic);
+    Ok(RoundedTarget {
+        total_hits,
+        misses: inspect::misses(q),
+        remain: inspect::remain(q),
+        target: inspect::target_of(Acc { value: acc }, w, total_hits),
+    })
 }
 
 // The query of `target_numbers`: no count is given but misses, passed and the holds passed.
@@ -98,7 +88,7 @@ pub fn target_numbers(
     ensures { lent result out.new ≡ handed 4 (target_answer (target_query objects holds classic presence misses passed holds_given holds_passed acc)) out.old }
 {
     if out.len() < 4 {
-        return 5;
+        return Refusal::Short.into();
     }
     let q = target_query(
         objects,
@@ -112,13 +102,13 @@ pub fn target_numbers(
         acc,
     );
     match rounded_target(q) {
-        TargetAnswer::Is(t) => {
+        Ok(t) => {
             out[0] = t.total_hits.0;
             out[1] = t.misses.0;
             out[2] = t.remain.0;
             out[3] = t.target.0;
             0
         }
-        TargetAnswer::Refused(n) => n,
+        Err(refusal) => refusal.into(),
     }
 }

@@ -10,6 +10,13 @@ ghost use Rattle.rounding.specs.Round.{round_even, product, zero64, one64};
 ghost use Rattle.rounding.specs.Distance.{ratio, distance};
 ghost use Rattle.rounding.specs.Quotient.{most_dividend, most_divisor, rounded_up};
 
+// An accuracy from 0 to 1; -0.0 counts as 0.
+#[derive(Clone, Copy)]
+pub struct Acc {
+    pub value: f64,
+    ghost in_range: { T (Ieee.le zero64 value) × T (Ieee.le value one64) },
+}
+
 // The whole number nearest to x, a half to the even one, for x from -0.0 up to 2^51. From 2^52 to 2^53 the f64s are the whole
 // numbers: the sum's own rounding, to the nearest and a half to even, is the one asked for, and its bits count on from those of 2^52.
 pub fn round_whole(x: f64) -> u64
@@ -31,14 +38,12 @@ pub fn round_ties_even(x: f64) -> u32
 }
 
 // acc times n, one f64 product, to the nearest whole number, a half to even; at most n.
-pub fn rounded_product(acc: f64, n: u32) -> u32
-    requires t_1 { T (Ieee.le zero64 acc) }
-    requires t_2 { T (Ieee.le acc one64) }
-    requires n_bound { n < 2 ^ 31 }
-    ensures value { result ≡ round_even (product acc n) }
+pub fn rounded_product(acc: Acc, n: u32) -> u32
+    requires { n < 2 ^ 31 }
+    ensures value { result ≡ round_even (product acc.value n) }
     ensures upper_bound { result ≤ n }
 {
-    round_ties_even(acc * (n as f64))
+    round_ties_even(acc.value * (n as f64))
 }
 
 // p / q as one f64 division.

@@ -1,2 +1,3 @@
 pub mod Caps
 pub mod Lent
+pub mod Handed

@@ -6,8 +6,6 @@ use Rattle.rounding.specs.Distance.{ratio}
 use Rattle.score_state.specs.Answer.{Answer, worked, refused}
 use Rattle.score_state.specs.Points.{perfect_weight, standard, points, counts_of, total_hits}
 use Rattle.score_state.specs.declared.HitResults.{HitResults}
-use Rattle.score_state.specs.declared.AccuracyAnswer.{AccuracyAnswer}
-use Rattle.score_state.specs.declared.AccuracyAnswer.TheVariants.{Is, OverCap}
 
 -- the accuracy of six counts
 unfoldable pub accuracy_of : HitResults → Bool → Float
@@ -31,11 +29,6 @@ pub record Capped (r : HitResults) : Type 0 where
   pub n100 : r.n100 ≤ cap
   pub n50 : r.n50 ≤ cap
   pub misses : r.misses ≤ cap
-
--- each case of the call's answer
-abbrev pub answer_of : AccuracyAnswer → Answer Float
-answer_of (Is x) = worked x
-answer_of OverCap = refused 10
 
 -- what `accuracy` answers
 unfoldable pub accuracy_answer : HitResults → Bool → Answer Float

@@ -1,7 +1,14 @@
 -- Document 01, Records: "'Given' means present, 'missing' the opposite". Five counts some of which are given, from n320 to n50,
 -- as the Rust's `Option<u32>`s.
 use Rattle.std.specs.Prelude.{ℕ, ◌+◌, ◌*◌, List, [], ◌∷◌}
+use Rattle.std.specs.Prelude.{Some, None}
+use Rattle.std.specs.declared.option.Option as Code
 use Rattle.std.proofs.Math.Option.{Option, none, some}
+
+-- the code's `Option` as the definitions have it
+abbrev pub option_of : {A : Type 0} → Code.Option A → Option A
+option_of None = none
+option_of (Some x) = some x
 
 -- `unwrap_or`
 unfoldable pub or : Option ℕ → ℕ → ℕ

@@ -4,12 +4,17 @@
 ghost use Rattle.std.specs.Prelude.{◌≡◌, ◌*◌, ◌≤◌};
 ghost use Rattle.units.specs.Limits.{most_weight};
 ghost use Rattle.score_state.specs.Points.{standard, points, weights_of, counts_of, total_hits, perfect_weight, Light};
-ghost use Rattle.score_state.specs.Accuracy.{accuracy_of, answer_of, accuracy_answer, cap, over_cap, Capped};
+ghost use Rattle.score_state.specs.Answer.{answer_of};
+ghost use Rattle.score_state.specs.Accuracy.{accuracy_of, accuracy_answer, cap, over_cap, Capped};
 
+use refusals::Refusal;
 use units::{Hits, Points};
 
+// The largest count that is let through.
+pub const CAP: u32 = 1_000_000;
+
 // The six judgement counts: `ManiaHitResults`.
-#[derive(Clone, Copy)]
+#[derive(Clone, Copy, Default, PartialEq, Eq)]
 pub struct HitResults {
     pub n320: u32,
     pub n300: u32,
@@ -36,20 +41,13 @@ impl HitResults {
 }
 
 // The weights of the five judgements; a miss weighs 0.
-#[derive(Clone, Copy)]
+#[derive(Clone, Copy, PartialEq, Eq)]
 pub struct Weights {
     pub n320: u32,
     pub n300: u32,
     pub n200: u32,
     pub n100: u32,
     pub n50: u32,
-}
-
-// What `accuracy` answers: the accuracy, or that a count is over 1,000,000 (10).
-#[derive(Clone, Copy)]
-pub enum AccuracyAnswer {
-    Is(f64),
-    OverCap,
 }
 
 // The weight of n320.
@@ -109,44 +107,34 @@ pub fn accuracy_of(counts: HitResults, classic: bool) -> f64
     ensures { result ≡ accuracy_of counts classic }
 {
     let total = total_hits(counts);
-    if total.is_zero() {
+    if total == Hits(0) {
         return 0.0;
     }
     let weights = standard_weights(classic);
     let numerator = points_of(weights, counts);
-    let denominator = total.times(perfect_weight(classic));
+    let denominator = total * perfect_weight(classic);
     numerator.ratio(denominator)
 }
 
 // Whether a count is over the cap.
+#[tactic(auto, unfolding(crate::specs::Accuracy::over_cap))]
 fn over_cap(counts: HitResults) -> bool
     ensures { result ≡ over_cap counts }
 {
-    if counts.n320 > 1_000_000 {
-        return true;
-    }
-    if counts.n300 > 1_000_000 {
-        return true;
-    }
-    if counts.n200 > 1_000_000 {
-        return true;
-    }
-    if counts.n100 > 1_000_000 {
-        return true;
-    }
-    if counts.n50 > 1_000_000 {
-        return true;
-    }
-    counts.misses > 1_000_000
+    counts.n320 > CAP
+        || counts.n300 > CAP
+        || counts.n200 > CAP
+        || counts.n100 > CAP
+        || counts.n50 > CAP
+        || counts.misses > CAP
 }
 
 // The accuracy of six counts, refused by 10 where one is over 1,000,000.
-pub fn accuracy(counts: HitResults, classic: bool) -> AccuracyAnswer
+pub fn accuracy(counts: HitResults, classic: bool) -> Result<f64, Refusal>
     ensures { answer_of result ≡ accuracy_answer counts classic }
 {
     if over_cap(counts) {
-        AccuracyAnswer::OverCap
-    } else {
-        AccuracyAnswer::Is(accuracy_of(counts, classic))
+        return Err(Refusal::CountOver);
     }
+    Ok(accuracy_of(counts, classic))
 }

@@ -74,24 +74,11 @@ const STRIDES: [[u8; 5]; 64] = [
     [1, 1, 1, 1, 1], // 63: none
 ];
 
-// A stride as the walk's number.
-fn wide(stride: u8) -> u32
-    ensures { result ≡ stride }
-{
-    stride as u32
-}
-
-// A row of them.
+// A row as the walk's numbers.
 fn widened(row: [u8; 5]) -> [u32; 5]
     ensures { result ≡ row }
 {
-    [
-        wide(row[0]),
-        wide(row[1]),
-        wide(row[2]),
-        wide(row[3]),
-        wide(row[4]),
-    ]
+    row.map(u32::from)
 }
 
 // The strides of a standard weighting where these counts are given; bits of presence above N50 are not looked at. Each half of the table

@@ -2,23 +2,25 @@
 #![tactic(auto)]
 
 ghost use Rattle.std.specs.Prelude.{◌≡◌, ◌+◌, ◌-◌, ◌*◌, ◌/◌, ◌%◌, ◌<◌, ◌≤◌, min, T, ltb, eqb, pos};
-ghost use Rattle.std.specs.Float.Ieee as Ieee;
 ghost use Rattle.std.specs.Float.{binary64};
 ghost use Rattle.std.specs.Float.Ieee.{of_int};
 ghost use Rattle.std.specs.Float.Ieee.Nearest.{closest};
-ghost use Rattle.rounding.specs.Round.{round_even, product, zero64, one64};
+ghost use Rattle.rounding.specs.Round.{round_even, product};
 ghost use Rattle.rounding.specs.Distance.{ratio};
 ghost use Rattle.rounding.specs.Quotient.{most_dividend, most_divisor, rounded_up};
 ghost use Rattle.units.specs.Limits.{most32};
 ghost use Rattle.units.specs.Gap.{gap};
 
-// A number of notes; no number of points. Code above this crate adds, subtracts and compares notes and points by the methods of
-// these two structs, so that neither can stand for the other.
-#[derive(Clone, Copy)]
+use rounding::Acc;
+use std::ops::{Add, Mul, Sub};
+
+// A number of notes; no number of points. Code above this crate adds, subtracts and compares notes and points by the operators and
+// methods of these two structs, so that neither can stand for the other.
+#[derive(Clone, Copy, PartialEq, Eq, PartialOrd, Ord)]
 pub struct Hits(pub u32);
 
 // A number of points; no number of notes.
-#[derive(Clone, Copy)]
+#[derive(Clone, Copy, PartialEq, Eq, PartialOrd, Ord)]
 pub struct Points(pub u32);
 
 // A whole division of points by a step of as many points: how often the step fits, and what is left over.
@@ -28,50 +30,50 @@ pub struct Steps {
     pub rest: Points,
 }
 
-impl Hits {
-    pub fn plus(self, other: Hits) -> Hits
-        requires { self.0 + other.0 ≤ most32 }
-        ensures { result.0 ≡ self.0 + other.0 }
-    {
+impl Add for Hits {
+    type Output = Hits;
+
+    ghost can_add = { λ a b. a.0 + b.0 ≤ most32 };
+
+    ghost add_gives = { λ a b r. r.0 ≡ a.0 + b.0 };
+
+    fn add(self, other: Hits) -> Hits {
         Hits(self.0 + other.0)
     }
+}
 
-    // The rest, where the other is a part of it.
-    pub fn minus(self, other: Hits) -> Hits
-        requires { other.0 ≤ self.0 }
-        ensures { result.0 ≡ self.0 - other.0 }
-    {
+// The rest, where the other is a part of it.
+impl Sub for Hits {
+    type Output = Hits;
+
+    ghost can_sub = { λ a b. b.0 ≤ a.0 };
+
+    ghost sub_gives = { λ a b r. r.0 ≡ a.0 - b.0 };
+
+    fn sub(self, other: Hits) -> Hits {
         Hits(self.0 - other.0)
     }
+}
 
+// The points of so many hits of one weight.
+impl Mul<u32> for Hits {
+    type Output = Points;
+
+    ghost can_mul = { λ a w. w * a.0 ≤ most32 };
+
+    ghost mul_gives = { λ a w r. r.0 ≡ w * a.0 };
+
+    fn mul(self, weight: u32) -> Points {
+        Points(weight * self.0)
+    }
+}
+
+impl Hits {
     // 0 where the other is more.
     pub fn saturating_sub(self, other: Hits) -> Hits
         ensures { result.0 ≡ self.0 - other.0 }
     {
-        if self.0 < other.0 {
-            Hits(0)
-        } else {
-            Hits(self.0 - other.0)
-        }
-    }
-
-    // `cmp::min`
-    pub fn least(self, other: Hits) -> Hits
-        ensures { result.0 ≡ min self.0 other.0 }
-    {
-        if self.0 < other.0 { self } else { other }
-    }
-
-    pub fn less(self, other: Hits) -> bool
-        ensures { result ≡ ltb self.0 other.0 }
-    {
-        self.0 < other.0
-    }
-
-    pub fn is_zero(self) -> bool
-        ensures { result ≡ eqb self.0 0 }
-    {
-        self.0 == 0
+        Hits(self.0.saturating_sub(other.0))
     }
 
     // Half of them, rounded down.
@@ -80,64 +82,55 @@ impl Hits {
     {
         Hits(self.0 / 2)
     }
+}
 
-    // The points of so many hits of one weight.
-    pub fn times(self, weight: u32) -> Points
-        requires { weight * self.0 ≤ most32 }
-        ensures { result.0 ≡ weight * self.0 }
-    {
-        Points(weight * self.0)
+impl Add for Points {
+    type Output = Points;
+
+    ghost can_add = { λ a b. a.0 + b.0 ≤ most32 };
+
+    ghost add_gives = { λ a b r. r.0 ≡ a.0 + b.0 };
+
+    fn add(self, other: Points) -> Points {
+        Points(self.0 + other.0)
+    }
+}
+
+// The rest, where the other is a part of it.
+impl Sub for Points {
+    type Output = Points;
+
+    ghost can_sub = { λ a b. b.0 ≤ a.0 };
+
+    ghost sub_gives = { λ a b r. r.0 ≡ a.0 - b.0 };
+
+    fn sub(self, other: Points) -> Points {
+        Points(self.0 - other.0)
+    }
+}
+
+impl From<Points> for f64 {
+    ghost from_gives = { λ p x. x ≡ of_int binary64 (pos p.0) };
+
+    fn from(points: Points) -> f64 {
+        points.0 as f64
     }
 }
 
 impl Points {
-    pub fn plus(self, other: Points) -> Points
-        requires { self.0 + other.0 ≤ most32 }
-        ensures { result.0 ≡ self.0 + other.0 }
-    {
-        Points(self.0 + other.0)
-    }
-
-    // The rest, where the other is a part of it.
-    pub fn minus(self, other: Points) -> Points
-        requires { other.0 ≤ self.0 }
-        ensures { result.0 ≡ self.0 - other.0 }
-    {
-        Points(self.0 - other.0)
-    }
-
     // 0 where the other is more.
     pub fn saturating_sub(self, other: Points) -> Points
         ensures { result.0 ≡ self.0 - other.0 }
     {
-        if self.0 < other.0 {
-            Points(0)
-        } else {
-            Points(self.0 - other.0)
-        }
+        Points(self.0.saturating_sub(other.0))
     }
 
     // How far the two lie apart.
+    #[tactic(auto, unfolding(crate::specs::Gap::gap))]
     pub fn gap(self, other: Points) -> Points
         ensures { result.0 ≡ gap self.0 other.0 }
     {
-        if self.0 < other.0 {
-            Points(other.0 - self.0)
-        } else {
-            Points(self.0 - other.0)
-        }
-    }
-
-    pub fn less(self, other: Points) -> bool
-        ensures { result ≡ ltb self.0 other.0 }
-    {
-        self.0 < other.0
-    }
-
-    pub fn is_zero(self) -> bool
-        ensures { result ≡ eqb self.0 0 }
-    {
-        self.0 == 0
+        Points(self.0.abs_diff(other.0))
     }
 
     // How many hits at so many points each fit, and the points left over.
@@ -175,17 +168,10 @@ impl Points {
     }
 
     // acc times them, one f64 product, to the nearest whole number, a half to even.
-    pub fn rounded_product(self, acc: f64) -> Points
-        requires t { (T (Ieee.le zero64 acc)) × (T (Ieee.le acc one64)) }
-        requires self_le_most_dividend { self.0 ≤ most_dividend }
-        ensures { (result.0 ≡ round_even (product acc self.0)) × (result.0 ≤ self.0) }
+    pub fn rounded_product(self, acc: Acc) -> Points
+        requires { self.0 ≤ most_dividend }
+        ensures { (result.0 ≡ round_even (product acc.value self.0)) × (result.0 ≤ self.0) }
     {
         Points(rounding::rounded_product(acc, self.0))
-    }
-
-    pub fn as_f64(self) -> f64
-        ensures { result ≡ of_int binary64 (pos self.0) }
-    {
-        self.0 as f64
     }
 }

@@ -1,4 +1,4 @@
--- The loop over the counts of one middle, stated once for the three levels: m is the middle, ms those inside it, ks the counts that
+-- The loop over the counts of one middle, stated once for the three loops: m is the middle, ms those inside it, ks the counts that
 -- are set outside it; the loop takes so many turns, with b₀ at the start. Below it, both candidates of a setting. A test of the code
 -- comes as x, which is the definition's test, and its outcome.
 use Prim.Native.Nat.{ℕ, suc, ◌+◌, ◌-◌, ◌*◌, ◌<◌, ◌≤◌, min}
@@ -39,25 +39,21 @@ module _ {p : Plan} {s : Setting} {m : MiddleCode} {ms : List Middle} {ks : List
   unfolding settings
   run_start f r l e = record { points = f; ready = r; slot = l; counts = e; within = omega arith; same = rw (e, sub-zero) }
 
-  module _ {k : ℕ} {b : BestCode} (r : Run p s m ms ks b₀ turns k b) {x : Bool} where
+  module _ {k : ℕ} {b : BestCode} (r : Run p s m ms ks b₀ turns k b) where
     -- a distance of 0, or no turn left, ends the loop
-    pub run_over : x ≡ over (view b) → x ≡ true → view b ≡ settle p.target.0 (settings_of p s (middle_of m ∷ ms) ks) (view b₀)
+    pub run_over : {x : Bool} → x ≡ over (view b) → x ≡ true → view b ≡ settle p.target.0 (settings_of p s (middle_of m ∷ ms) ks) (view b₀)
     run_over e t = sym (settle-over p.target.0 (rows (turns - k) k (row_of p s m ms ks)) (view b) (sym e ∙ t)) ∙ r.same
 
-    pub run_end : x ≡ ltb k turns → x ≡ false → view b ≡ settle p.target.0 (settings_of p s (middle_of m ∷ ms) ks) (view b₀)
-    run_end e t = sym (loop_end p.target.0 turns k (row_of p s m ms ks) (view b) (ltb-false k turns (sym e ∙ t))) ∙ r.same
+    pub run_end : turns ≤ k → view b ≡ settle p.target.0 (settings_of p s (middle_of m ∷ ms) ks) (view b₀)
+    run_end h = sym (loop_end p.target.0 turns k (row_of p s m ms ks) (view b) h) ∙ r.same
 
-    module _ (e : x ≡ ltb k turns) (t : x ≡ true) where
-      pub run_less : k < turns
-      run_less = ltb-true k turns (sym e ∙ t)
-
+    module _ (h : k < turns) where
       -- all points of the row of k fit
       pub run_fits : s.points.0 + m.weight * k + p.a * (s.left.0 - k) ≤ most32
-      run_fits =
-          fits_step p.a m.weight s.left.0 s.points.0 most32 k r.slot.weight r.points (omega (arith, r.counts, run_less))
+      run_fits = fits_step p.a m.weight s.left.0 s.points.0 most32 k r.slot.weight r.points (omega (arith, r.counts, h))
 
       pub run_set : (k ≤ s.left.0) × (s.points.0 + m.weight * k ≤ most32)
-      run_set = (omega (arith, r.counts, run_less), omega (arith, run_fits))
+      run_set = (omega (arith, r.counts, h), omega (arith, run_fits))
 
       pub run_ready : Ready p (row_of p s m ms ks k) b
       run_ready =
@@ -65,21 +61,21 @@ module _ {p : Plan} {s : Setting} {m : MiddleCode} {ms : List Middle} {ks : List
           record {
             order = r.ready.order;
             slots = r.ready.slots;
-            tried = omega (arith, r.ready.tried, loop_count p.target.0 turns k (row_of p s m ms ks) (view b) run_less);
+            tried = omega (arith, r.ready.tried, loop_count p.target.0 turns k (row_of p s m ms ks) (view b) h);
           }
 
-      -- a turn: the callee settles the row of k
+      -- a turn: what is inside settles the row of k
       pub run_on
-          : {j : ℕ} {n : BestCode} → j ≡ k + 1 → view n ≡ settle p.target.0 (row_of p s m ms ks k) (view b)
-          → Run p s m ms ks b₀ turns j n
-      run_on i o =
+          : {n : BestCode} → view n ≡ settle p.target.0 (row_of p s m ms ks k) (view b)
+          → Run p s m ms ks b₀ turns (k + 1) n
+      run_on o =
           record {
             points = r.points;
             ready = r.ready;
             slot = r.slot;
             counts = r.counts;
-            within = omega (arith, run_less);
-            same = rw (i, o, ← loop_step p.target.0 turns k (row_of p s m ms ks) (view b) run_less) r.same;
+            within = omega (arith, h);
+            same = rw (o, ← loop_step p.target.0 turns k (row_of p s m ms ks) (view b) h) r.same;
           }
 
 -- the distances of both candidates of a setting, from the lower one's
@@ -102,6 +98,12 @@ pub record Lower (p : Plan) (s : Setting) (b : BestCode) (lo : ℕ) (n : BestCod
   pub least : lo ≡ lowest p.a p.c p.target.0 s.left.0 s.points.0
   pub offered : view n ≡ offer p.target.0 (trial_of p s lo) (view b)
   pub going : over (view b) ≡ false
+
+pub after_low
+    : {p : Plan} {s : Setting} {b n : BestCode} {l : Low} {d : ℕ} → IsLow p s l → d ≡ l.below.0 + l.above.0
+    → ((q : Plan) → d ≡ gap (trial_of q s l.top.0).points q.target.0 → view n ≡ offer q.target.0 (trial_of q s l.top.0) (view b))
+    → over (view b) ≡ false → Lower p s b l.top.0 n
+after_low {p} i e o g = record { least = i.top; offered = o p (e ∙ low_gap i); going = g }
 
 module _ {p : Plan} {s : Setting} {b n : BestCode} {lo : ℕ} (f : Lower p s b lo n) where
   rest

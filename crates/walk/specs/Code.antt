@@ -48,7 +48,7 @@ settings_of p s ms ks = settings p.a p.c p.target.0 ms s.left.0 s.points.0 ks
 abbrev pub row_of : Plan → Setting → MiddleCode → List Middle → List ℕ → ℕ → List Try
 row_of p s m ms ks k = settings p.a p.c p.target.0 ms (s.left.0 - k) (s.points.0 + m.weight * k) (ks ++ (k ∷ []))
 
--- the candidates that each function of the walk tries: both of a setting, and those of the middles that are still to set
+-- the candidates that are tried: both of a setting, and those of each loop of `each_n300`, by the middles that are still to set
 abbrev pub both_of : Plan → Setting → List Try
 both_of p s = settings_of p s [] (s.n300.0 ∷ s.n200.0 ∷ s.n100.0 ∷ [])
 

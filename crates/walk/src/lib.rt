@@ -6,7 +6,7 @@ ghost use Rattle.units.specs.Limits.{most32};
 ghost use Rattle.units.specs.Gap.{gap};
 ghost use Rattle.nearest_laws.specs.Walk as Walk;
 ghost use Rattle.walk.specs.declared.Plan as Plans;
-ghost use Rattle.walk.specs.Code.{view, fresh, try_of, trial_of, set_of, both_of, each_n100, each_n200, each_n300, PointsFit, Ready, IsLow};
+ghost use Rattle.walk.specs.Code.{view, fresh, try_of, trial_of, set_of, both_of, each_n300, PointsFit, Ready, IsLow};
 
 use units::{Hits, Points};
 
@@ -48,7 +48,7 @@ pub struct Setting {
     pub n100: Hits,
 }
 
-// The best so far. Nothing is found while tried is 0.
+// The best so far; nothing is found while tried is 0. No `Option`: document 01, Language forms, has the candidates counted in this struct.
 #[derive(Clone, Copy)]
 pub struct Best {
     pub tried: u32,
@@ -72,18 +72,18 @@ fn lowest(plan: Plan, at: Setting) -> Low
 {
     let left = at.left;
     let step = plan.a - plan.c;
-    let base = at.points.plus(left.times(plan.c));
-    if plan.target.less(base) {
+    let base = at.points + left * plan.c;
+    if plan.target < base {
         return Low {
             top: Hits(0),
             below: Points(0),
-            above: base.minus(plan.target),
+            above: base - plan.target,
         };
     }
-    let steps = plan.target.minus(base).steps(step);
+    let steps = (plan.target - base).steps(step);
     let count = steps.count;
     let rest = steps.rest;
-    if count.less(left) {
+    if count < left {
         return Low {
             top: count,
             below: rest,
@@ -93,7 +93,7 @@ fn lowest(plan: Plan, at: Setting) -> Low
     // Cut off at the hits left, or just there.
     Low {
         top: left,
-        below: count.minus(left).times(step).plus(rest),
+        below: (count - left) * step + rest,
         above: Points(0),
     }
 }
@@ -104,7 +104,7 @@ impl Middle {
         requires { 0 < self.q }
         ensures { result.0 ≡ suc (min (self.q - 1) left.0) }
     {
-        Hits(self.q - 1).least(left).plus(Hits(1))
+        Hits(self.q - 1).min(left) + Hits(1)
     }
 }
 
@@ -114,15 +114,10 @@ impl Setting {
         requires { (k.0 ≤ self.left.0) × (self.points.0 + middle.weight * k.0 ≤ most32) }
         ensures { result ≡ set_of self middle k.0 }
     {
-        let n300 = self.n300;
-        let n200 = self.n200;
-        let n100 = self.n100;
         Setting {
-            left: self.left.minus(k),
-            points: self.points.plus(k.times(middle.weight)),
-            n300: n300,
-            n200: n200,
-            n100: n100,
+            left: self.left - k,
+            points: self.points + k * middle.weight,
+            ..self
         }
     }
 }
@@ -147,17 +142,19 @@ impl Best {
     }
 
     // A distance of 0 ends the walk.
+    #[tactic(auto, unfolding(nearest_laws::specs::Walk::over))]
     fn over(self) -> bool
         ensures { result ≡ Walk.over (view self) }
     {
-        0 < self.tried && self.dist.is_zero()
+        0 < self.tried && self.dist == Points(0)
     }
 
     // A candidate is better than none, and where it is nearer.
+    #[tactic(auto, unfolding(nearest_laws::specs::Walk::better))]
     fn better(self, dist: Points) -> bool
         ensures { result ≡ Walk.better (view self) dist.0 }
     {
-        self.tried == 0 || dist.less(self.dist)
+        self.tried == 0 || dist < self.dist
     }
 
     // A better candidate takes the place of the best.
@@ -179,20 +176,14 @@ impl Best {
         requires { (top.0 ≤ at.left.0) × (self.tried < most32) }
         ensures { (p : Plans.Plan) → dist.0 ≡ gap (trial_of p at top.0).points p.target.0 → view result ≡ Walk.offer p.target.0 (trial_of p at top.0) (view self) }
     {
-        let n300 = at.n300;
-        let n200 = at.n200;
-        let n100 = at.n100;
-        let rest = at.left.minus(top);
-        self.offer(
-            Spread {
-                top: top,
-                n300: n300,
-                n200: n200,
-                n100: n100,
-                rest: rest,
-            },
-            dist,
-        )
+        let spread = Spread {
+            top,
+            n300: at.n300,
+            n200: at.n200,
+            n100: at.n100,
+            rest: at.left - top,
+        };
+        self.offer(spread, dist)
     }
 
     // Both candidates of a setting: lo, then lo + 1, which has a − c points more.
@@ -201,73 +192,47 @@ impl Best {
         ensures { view result ≡ Walk.settle plan.target.0 (both_of plan at) (view self) }
     {
         let low = lowest(plan, at);
-        let next = self.attempt(at, low.top, low.below.plus(low.above));
+        let next = self.attempt(at, low.top, low.below + low.above);
         if next.over() {
             return next;
         }
-        if low.top.less(at.left) {
-            let dist = low.above.plus(Points(plan.a - plan.c)).minus(low.below);
-            return next.attempt(at, low.top.plus(Hits(1)), dist);
+        if low.top < at.left {
+            let dist = low.above + Points(plan.a - plan.c) - low.below;
+            return next.attempt(at, low.top + Hits(1), dist);
         }
         next
     }
 
-    // The counts of the place of n100, from 0 up.
-    fn each_n100(self, plan: Plan, at: Setting) -> Best
-        requires { PointsFit plan at × Ready plan (each_n100 plan at) self }
-        ensures { view result ≡ Walk.settle plan.target.0 (each_n100 plan at) (view self) }
-    {
-        let turns = plan.n100.turns(at.left);
-        let mut best = self;
-        let mut k = Hits(0);
-        while k.less(turns) {
-            if best.over() {
-                return best;
-            }
-            let mut here = at.set(plan.n100, k);
-            here.n100 = k;
-            best = best.both(plan, here);
-            k = k.plus(Hits(1));
-        }
-        best
-    }
-
-    // The counts of the place of n200.
-    fn each_n200(self, plan: Plan, at: Setting) -> Best
-        requires { PointsFit plan at × Ready plan (each_n200 plan at) self }
-        ensures { view result ≡ Walk.settle plan.target.0 (each_n200 plan at) (view self) }
-    {
-        let turns = plan.n200.turns(at.left);
-        let mut best = self;
-        let mut k = Hits(0);
-        while k.less(turns) {
-            if best.over() {
-                return best;
-            }
-            let mut here = at.set(plan.n200, k);
-            here.n200 = k;
-            best = best.each_n100(plan, here);
-            k = k.plus(Hits(1));
-        }
-        best
-    }
-
-    // The counts of the place of n300, outermost.
+    // All settings of the middles: the counts of each place from 0 up, that of n300 outermost.
     pub fn each_n300(self, plan: Plan, at: Setting) -> Best
         requires { PointsFit plan at × Ready plan (each_n300 plan at) self }
         ensures { view result ≡ Walk.settle plan.target.0 (each_n300 plan at) (view self) }
     {
-        let turns = plan.n300.turns(at.left);
         let mut best = self;
-        let mut k = Hits(0);
-        while k.less(turns) {
-            if best.over() {
-                return best;
+        for n300 in 0..plan.n300.turns(at.left).0 {
+            let n300 = Hits(n300);
+            let outer = Setting {
+                n300,
+                ..at.set(plan.n300, n300)
+            };
+            for n200 in 0..plan.n200.turns(outer.left).0 {
+                let n200 = Hits(n200);
+                let inner = Setting {
+                    n200,
+                    ..outer.set(plan.n200, n200)
+                };
+                for n100 in 0..plan.n100.turns(inner.left).0 {
+                    if best.over() {
+                        return best;
+                    }
+                    let n100 = Hits(n100);
+                    let here = Setting {
+                        n100,
+                        ..inner.set(plan.n100, n100)
+                    };
+                    best = best.both(plan, here);
+                }
             }
-            let mut here = at.set(plan.n300, k);
-            here.n300 = k;
-            best = best.each_n200(plan, here);
-            k = k.plus(Hits(1));
         }
         best
     }

@@ -5,4 +5,4 @@ use Rattle.inspect.proofs.remain.Goals as goal
 
 pub returns : goal.returns
 unfolding remain
-returns c = (rw (c.minus.ensures, c.total_hits-total.ensures.0, c.misses-missed.ensures.0), omega arith)
+returns c = (rw (c.sub.ensures, c.total_hits.ensures.0, c.misses.ensures.0), omega arith)

@@ -11,6 +11,6 @@ pub returns-then-over_cap : goal.returns-then-over_cap
 unfolding accuracy_answer
 returns-then-over_cap c = rw (sym c.over_cap.ensures ∙ c.if-over_cap.true)
 
-pub returns-else-over_cap : goal.returns-else-over_cap
+pub returns : goal.returns
 unfolding accuracy_answer
-returns-else-over_cap c = rw (sym c.over_cap.ensures ∙ c.if-over_cap.false, c.accuracy_of.ensures)
+returns c = rw (sym c.over_cap.ensures ∙ c.if-over_cap.false, c.accuracy_of.ensures)

@@ -9,20 +9,20 @@ use Rattle.score_state.proofs.accuracy_of.Goals as goal
 pub total_hits-total-requires : goal.total_hits-total-requires
 total_hits-total-requires c = c.requires
 
-pub returns-then-is_zero : goal.returns-then-is_zero
+pub returns-then-eq : goal.returns-then-eq
 unfolding of_bits
-returns-then-is_zero c =
+returns-then-eq c =
     let x = c.args in
-    accuracy-none x.counts x.classic c.total_hits-total.result.0 c.total_hits-total.ensures (sym c.is_zero.ensures ∙ c.if-is_zero.true)
+    accuracy-none x.counts x.classic c.total_hits-total.result.0 c.total_hits-total.ensures (sym c.eq.ensures ∙ c.if-eq.true)
 
 pub points_of-numerator-requires : goal.points_of-numerator-requires
 points_of-numerator-requires c = record { fact_1 = c.standard_weights-weights.ensures.1; fact_2 = c.requires }
 
-pub times-denominator-requires : goal.times-denominator-requires
-times-denominator-requires c =
+pub mul-denominator-requires : goal.mul-denominator-requires
+mul-denominator-requires c =
     omega (arith, whole_within c.args.counts c.requires c.perfect_weight.result c.total_hits-total.result.0 c.perfect_weight.ensures.1 c.total_hits-total.ensures)
 
 pub returns : goal.returns
 returns c =
     let x = c.args in
-    accuracy-some x.counts x.classic c.total_hits-total.result.0 c.total_hits-total.ensures c.points_of-numerator.result.0 c.perfect_weight.result c.times-denominator.result.0 (weights_of c.standard_weights-weights.result) c.ratio.result (sym c.is_zero.ensures ∙ c.if-is_zero.false) c.standard_weights-weights.ensures.0 c.points_of-numerator.ensures c.perfect_weight.ensures.0 c.times-denominator.ensures c.ratio.ensures
+    accuracy-some x.counts x.classic c.total_hits-total.result.0 c.total_hits-total.ensures c.points_of-numerator.result.0 c.perfect_weight.result c.mul-denominator.result.0 (weights_of c.standard_weights-weights.result) c.ratio.result (sym c.eq.ensures ∙ c.if-eq.false) c.standard_weights-weights.ensures.0 c.points_of-numerator.ensures c.perfect_weight.ensures.0 c.mul-denominator.ensures c.ratio.ensures

@@ -7,4 +7,4 @@ pub returns : goal.returns
 unfolding trial
 returns c p e =
     let x = c.args in
-    rw c.minus-rest.ensures at (c.offer.ensures p.target.0 (trial_of p x.at x.top.0).points e)
+    rw c.sub.ensures at (c.offer.ensures p.target.0 (trial_of p x.at x.top.0).points e)
