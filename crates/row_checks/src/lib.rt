@@ -2,10 +2,12 @@
 #![tactic(auto, unfolding(crate::specs::RowChecks::left_over, crate::specs::RowChecks::holds_left, crate::specs::RowChecks::fields_left, crate::specs::RowChecks::unknown_row, crate::specs::RowChecks::own_unfit, crate::specs::RowChecks::row_stop))]
 
 ghost use Rattle.std.specs.Prelude.{◌≡◌, cond, ◌<◌, ◌≤◌, ltb};
+ghost use Rattle.score_state.specs.Answer.{status_of, answer_of};
 ghost use Rattle.row_checks.specs.RowChecks.{left_over, holds_left, fields_left, unknown_row, own_unfit, row_stop};
 
 use inspect::Chart;
 use records::Row;
+use refusals::Refusal;
 use weighting::Scoring;
 
 // A missing field that is not all zero bytes.
@@ -57,23 +59,23 @@ fn own_unfit(scoring: Scoring, method: u8) -> bool
     }
 }
 
-// Checks 7 to 9 and 19 of a row and its chart: the first that stops it, or 0.
-pub fn row_stop(row: Row, chart: Chart, scoring: Scoring) -> u32
-    ensures { result ≡ row_stop scoring row chart }
+// Checks 7 to 9 and 19 of a row and its chart, in this order: the first that stops the row is told.
+pub fn check(row: Row, chart: Chart, scoring: Scoring) -> Result<(), Refusal>
+    ensures { status_of (answer_of result) ≡ row_stop scoring row chart }
 {
     if inspect::chart_over(chart.n_objects, chart.n_hold_notes) {
-        return 7;
+        return Err(Refusal::ChartOver);
     }
     if unknown_row(row) {
-        return 8;
+        return Err(Refusal::UnknownCode);
     }
     if fields_left(row) {
-        return 9;
+        return Err(Refusal::LeftOver);
     }
     if own_unfit(scoring, row.method) {
-        return 19;
+        return Err(Refusal::OwnUnfit);
     }
-    0
+    Ok(())
 }
 
 // Where the chart that a row names stands among the n charts of a sheet; where it names none, a place whose chart check 6 leaves unused.
