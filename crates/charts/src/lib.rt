@@ -11,16 +11,13 @@ pub fn read_charts(s: &[u8], at: usize, n: usize) -> [Chart; 256]
     requires { (at + 8 * n ≤ length s.now) × (n ≤ 256) }
     ensures { (take n result ≡ charts_at s.now at n) × (length result ≡ 256) }
 {
-    let zero = Chart {
+    let none = Chart {
         n_objects: 0,
         n_hold_notes: 0,
     };
-    let mut charts = [zero; 256];
-    let mut i: usize = 0;
-    while i < n {
-        let chart = records::read_chart(s, at + 8 * i);
-        charts[i] = chart;
-        i += 1;
+    let mut charts = [none; 256];
+    for i in 0..n {
+        charts[i] = records::read_chart(s, at + 8 * i);
     }
     charts
 }

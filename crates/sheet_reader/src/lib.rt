@@ -13,44 +13,35 @@ use cursor::Reader;
 use inspect::Chart;
 use weighting::Scoring;
 
-// The query where the reader stands: it is read, its chart is found in the lent list, whose first count are the sheet's, and its answer is
-// written. The reader is handed back behind it.
-fn work_row<'a, 'b, 'c>(
-    r: Reader<'a>,
-    charts: &'b [Chart],
+// What stands before a sheet's queries: its charts, the first count of a lent list, and by which weights its rows are scored.
+#[derive(Clone, Copy)]
+struct Header<'a> {
+    charts: &'a [Chart],
     count: usize,
     scoring: Scoring,
-    out: &'c mut [u8],
-    at: usize,
-) -> Reader<'a>
-    requires { (count ≤ 256) × (length charts.now ≡ 256) × (allowed scoring ≡ true) × (r.at + 48 ≤ length r.sheet.now) × (at + 36 ≤ length out.old) }
-    ensures { (result.sheet ≡ r.entry.sheet) × (result.at ≡ r.entry.at + 48) × (out.new ≡ put out.old at (answer_bytes (row_answer scoring (row_at r.entry.sheet.now r.entry.at) (take count charts.now)))) }
+    ghost long: { length charts.now ≡ 256 },
+    ghost few: { count ≤ 256 },
+    ghost passes: { allowed scoring ≡ true },
+}
+
+// The query where the reader stands: it is read, its chart is found in the lent list, and its answer is written.
+fn work_row(reader: &mut Reader, header: Header, out: &mut [u8], at: usize)
+    requires { (reader.old.at + 48 ≤ length reader.old.sheet.now) × (at + 36 ≤ length out.old) }
+    ensures { (reader.new.sheet ≡ reader.old.sheet) × (reader.new.at ≡ reader.old.at + 48) × (out.new ≡ put out.old at (answer_bytes (row_answer header.entry.scoring (row_at reader.old.sheet.now reader.old.at) (take header.entry.count header.entry.charts.now)))) }
 {
-    let query = cursor::read(r, 48);
-    let row = records::read_row(query.bytes, 0);
-    let index = row_checks::chart_index(row, count);
-    let chart = charts::chart_at(charts, index);
-    rows::put_row(row, chart, count, scoring, out, at);
-    query.rest
+    let row = records::read_row(reader.read(48), 0);
+    let index = row_checks::chart_index(row, header.count);
+    let chart = charts::chart_at(header.charts, index);
+    rows::put_row(row, chart, header.count, header.scoring, out, at);
 }
 
 // The n rows that start where the reader stands, one after the other.
-fn work_rows<'a, 'b, 'c>(
-    start: Reader<'a>,
-    charts: &'b [Chart],
-    count: usize,
-    scoring: Scoring,
-    n: usize,
-    out: &'c mut [u8],
-)
-    requires { (count ≤ 256) × (length charts.now ≡ 256) × (allowed scoring ≡ true) × (start.at + 48 * n ≤ length start.sheet.now) × (36 * n ≤ length out.old) }
-    ensures { out.new ≡ rows_written start.entry.sheet.now scoring (take count charts.now) start.entry.at n out.old }
+fn work_rows(reader: &mut Reader, header: Header, n: usize, out: &mut [u8])
+    requires { (reader.old.at + 48 * n ≤ length reader.old.sheet.now) × (36 * n ≤ length out.old) }
+    ensures { (reader.new.sheet ≡ reader.old.sheet) × (reader.new.at ≡ reader.old.at + 48 * n) × (out.new ≡ rows_written reader.old.sheet.now header.entry.scoring (take header.entry.count header.entry.charts.now) reader.old.at n out.old) }
 {
-    let mut r = start;
-    let mut i: usize = 0;
-    while i < n {
-        r = work_row(r, charts, count, scoring, out, 36 * i);
-        i += 1;
+    for i in 0..n {
+        work_row(reader, header, out, 36 * i);
     }
 }
 
@@ -59,16 +50,17 @@ pub fn work_accepted(sheet: &[u8], out: &mut [u8]) -> usize
     requires { sheet_stop sheet.now (length out.old) ≡ 0 }
     ensures { (result ≡ query_count sheet.now) × (out.new ≡ rows_written sheet.now (scoring_of sheet.now) (charts_of sheet.now) (rows_at sheet.now) (query_count sheet.now) out.old) }
 {
-    let first = cursor::read(cursor::new(sheet), 4);
-    let count = records::read_count(first.bytes, 0);
-    let listed = cursor::read(first.rest, 8 * count);
-    let charts = charts::read_charts(listed.bytes, 0, count);
-    let second = cursor::read(listed.rest, 4);
-    let own = records::read_count(second.bytes, 0);
-    let weights = cursor::read(second.rest, 20 * own);
-    let scoring = records::read_scoring(weights.bytes, 0, own);
-    let third = cursor::read(weights.rest, 4);
-    let queries = records::read_count(third.bytes, 0);
-    work_rows(third.rest, &charts, count, scoring, queries, out);
+    let mut reader = Reader::new(sheet);
+    let count = records::read_count(reader.read(4), 0);
+    let charts = charts::read_charts(reader.read(8 * count), 0, count);
+    let own = records::read_count(reader.read(4), 0);
+    let scoring = records::read_scoring(reader.read(20 * own), 0, own);
+    let queries = records::read_count(reader.read(4), 0);
+    let header = Header {
+        charts: &charts,
+        count,
+        scoring,
+    };
+    work_rows(&mut reader, header, queries, out);
     queries
 }

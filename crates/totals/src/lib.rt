@@ -6,7 +6,7 @@ ghost use Rattle.little_endian.specs.Bytes.{u32_at};
 ghost use Rattle.totals.specs.Totals.{totals_over, seven_of, Within};
 
 // How many rows have status 0, and the sums of their six counts.
-#[derive(Clone, Copy)]
+#[derive(Clone, Copy, Default)]
 pub struct Totals {
     pub rows: u64,
     pub n320: u64,
@@ -54,19 +54,9 @@ pub fn totals_of(out: &[u8], n: usize) -> Totals
     requires { (n ≤ 1024) × (36 * n ≤ length out.now) }
     ensures { seven_of result ≡ totals_over out.now n }
 {
-    let mut totals = Totals {
-        rows: 0,
-        n320: 0,
-        n300: 0,
-        n200: 0,
-        n100: 0,
-        n50: 0,
-        misses: 0,
-    };
-    let mut k: usize = 0;
-    while k < n {
+    let mut totals = Totals::default();
+    for k in 0..n {
         totals = totals.with_next(out, k);
-        k += 1;
     }
     totals
 }

@@ -1,10 +1,7 @@
 -- The loop of `charts::read_charts`: the charts read so far stand in front of the array.
-use Rattle.std.proofs.Common.{◌-◌, ◌≡◌, ◌≤◌, length, take}
+use Rattle.std.proofs.Common.{◌≡◌, length, take}
 use Rattle.charts.specs.Charts.{charts_at}
 use Rattle.charts.proofs.read_charts.Given as goal
 
 abbrev pub invariant-loop-i : goal.invariant-loop-i
-invariant-loop-i l = (l.i ≤ l.n) × (length l.charts ≡ 256) × (take l.i l.charts ≡ charts_at l.s l.at l.i)
-
-abbrev pub decreases-loop-i : goal.decreases-loop-i
-decreases-loop-i l = l.n - l.i
+invariant-loop-i l = (length l.charts ≡ 256) × (take l.i l.charts ≡ charts_at l.s l.at l.i)
