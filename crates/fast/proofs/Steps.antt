@@ -1,12 +1,12 @@
--- One lemma for each answer of the code's proofs, over what its calls ensure, in their order. Assumes nothing.
+-- What the code's proofs cite, over what its calls ensure. Assumes nothing.
 use mathlib.Core.Path.{◌≡◌, refl, sym, ap, ◌∙◌}
-use mathlib.Core.Bool.{Bool, true, false, cond, not}
+use mathlib.Core.Bool.{Bool, true, false}
 use mathlib.Core.List.{[], ◌∷◌}
 use mathlib.Core.Logic.{⊎_elim}
 use mathlib.Core.Option.{Option, none, some}
-use Prim.Native.Nat.{ℕ, ◌+◌, ◌-◌, ◌*◌, ◌≤◌, ◌<◌, min}
+use Prim.Native.Nat.{ℕ, ◌+◌, ◌-◌, ◌≤◌, ◌<◌, min}
 use native.Mathlib.Omega.{arith}
-use borrow.Author.Tests.{eq-eqb, ne_eqb, lt-ltb, le-ltb, not-true, not-false}
+use borrow.Author.Tests.{eq-eqb, ne_eqb, lt-ltb, le-ltb}
 use types.Run.{OneOf}
 use denote.Enum.Declared.{tag_of}
 use lib.Dec.{eqb}
@@ -26,61 +26,10 @@ use Rattle.inspect.proofs.Lacking.{is_nothing, is_one, is_two, is_three_plus}
 use Rattle.inspect.specs.contracts.Missing.{the_type}
 use Rattle.fast.specs.declared.Partial.{Partial}
 use Rattle.fast.specs.declared.Running.{Running}
-use Rattle.fast.specs.Fast.{if_none, Prelim, clamped, prelim, provided, num_provided, all_provided, used, one_missing, numerator, target_total, delta_of, upgrade, upgrades, left_place, plus_left, add_left, three_or_fewer, provide, with_acc, by_acc, fast}
+use Rattle.fast.specs.Fast.{prelim, provided, num_provided, all_provided, one_missing, upgrade, upgrades, left_place, plus_left, add_left, three_or_fewer, provide, with_acc, by_acc, fast}
 use Rattle.fast.specs.Code.{prelim_of, remain_of, total_of, upgraded_of}
 
--- ---- a bit that was tested
-pub absent : {b h : Bool} → b ≡ h → b ≡ false → h ≡ false
-absent e t = sym e ∙ t
-
-pub present : {b h : Bool} → b ≡ h → b ≡ true → h ≡ true
-present e t = sym e ∙ t
-
--- ---- the counts before the greedy filling
-pub clamped-is : (h : Bool) (n room : ℕ) {x r : ℕ} → x ≡ cond h n 0 → r ≡ min x room → (r ≡ clamped (given h n) room) × (r ≤ room)
-unfolding clamped
-clamped-is true n room e m = (omega arith, omega arith)
-clamped-is false n room e m = (omega arith, omega arith)
-
-abbrev Clamped : Option ℕ → ℕ → ℕ → Type 0
-Clamped n room x = (x ≡ clamped n room) × (x ≤ room)
-
-pub prelim-is
-    : (i : Inspect) (R : ℕ) {x1 x2 x3 x4 x5 a1 a2 a3 a4 a5 : ℕ} → Clamped i.n320 R x1 → a1 ≡ R - x1 → Clamped i.n300 a1 x2 → a2 ≡ a1 - x2
-    → Clamped i.n200 a2 x3 → a3 ≡ a2 - x3 → Clamped i.n100 a3 x4 → a4 ≡ a3 - x4 → Clamped i.n50 a4 x5 → a5 ≡ a4 - x5
-    → (◌≡◌ {A = Prelim} (record { n320 = x1; n300 = x2; n200 = x3; n100 = x4; n50 = x5 }) (prelim i R)) × (x1 + x2 + x3 + x4 + x5 + a5 ≡ R)
-unfolding prelim
-prelim-is i R e1 s1 e2 s2 e3 s3 e4 s4 e5 s5 =
-    (rw (e5.0, s4, e4.0, s3, e3.0, s2, e2.0, s1, e1.0), omega arith)
-
-pub one_is
-    : (i : Inspect) (p : Partial) {x1 x2 x3 x4 x5 : ℕ} → x1 ≡ if_none i.n320 p.left.0 p.counts.n320 → x2 ≡ if_none i.n300 p.left.0 p.counts.n300
-    → x3 ≡ if_none i.n200 p.left.0 p.counts.n200 → x4 ≡ if_none i.n100 p.left.0 p.counts.n100 → x5 ≡ if_none i.n50 p.left.0 p.counts.n50
-    → ◌≡◌ {A = HitResults}
-    (record { n320 = x1; n300 = x2; n200 = x3; n100 = x4; n50 = x5; misses = p.counts.misses })
-    (one_missing i (remain_of p) p.counts.misses (prelim_of p.counts))
-unfolding one_missing
-one_is i p e1 e2 e3 e4 e5 =
-    let l : remain_of p - used (prelim_of p.counts) ≡ p.left.0 = omega arith in
-    rw (l, e1, e2, e3, e4, e5)
-
 -- ---- the greedy filling
-pub numerator-is : (classic : Bool) (c : HitResults) → points (standard classic) (counts_of c) ≡ numerator (perfect_weight classic) (prelim_of c)
-unfolding points numerator
-numerator-is classic c = omega arith
-
-pub delta-is
-    : (acc : Float) (w t : ℕ) (p : Partial) {d n x b r : ℕ} → n ≡ numerator w (prelim_of p.counts) → d ≡ w * t → x ≡ target_total acc d n
-    → b ≡ 10 * p.left.0 → r ≡ x - b → r ≡ delta_of acc w t (remain_of p) (prelim_of p.counts)
-unfolding delta_of
-delta-is acc w t p en ed ex eb er =
-    let c = p.counts in
-    let l : remain_of p - c.n320 - c.n300 - c.n200 - c.n100 - c.n50 ≡ p.left.0 = omega arith in
-    er ∙ rw (ex, ed, en, eb, l)
-
-pub perfect_least : (classic : Bool) → 60 ≤ perfect_weight classic
-perfect_least true = omega arith
-perfect_least false = omega arith
 
 -- n50 takes what it is given, or the whole room
 rest_is : (o : Option ℕ) (R room : ℕ) → room ≤ R → min room (or o room) ≡ min room (or o R)
@@ -88,6 +37,7 @@ unfolding or
 rest_is (some n) R room l = refl
 rest_is none R room l = omega arith
 
+-- `unwrap_or` of the code's option
 pub or_is : (o : Code.Option ℕ) (d : ℕ) {g : Option ℕ} {x : ℕ} → option_of o ≡ g → x ≡ unwrap_or o d → x ≡ or g d
 unfolding or
 or_is (Some n) d e h = h ∙ ap (λ (z : Option ℕ). or z d) e
@@ -175,12 +125,6 @@ module _
   remains : r ≡ remain i
   unfolding remain
   remains = es ∙ rw (et, em)
-
-  pub zero_is
-      : eqb r 0 ≡ true
-      → ◌≡◌ {A = HitResults} (record { n320 = 0; n300 = 0; n200 = 0; n100 = 0; n50 = 0; misses = m }) (with_acc acc i)
-  unfolding with_acc
-  zero_is z = rw (← remains, z, em)
 
   module _ (p : Partial) (z : eqb r 0 ≡ false) (e : (prelim_of p.counts ≡ prelim i r) × (remain_of p ≡ r) × (p.counts.misses ≡ m)) where
     some_is : provide acc i ≡ with_acc acc i

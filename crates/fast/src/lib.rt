@@ -26,6 +26,7 @@ struct Given {
 }
 
 impl Given {
+    // The Rust's `inspect.n320` to `inspect.n50`.
     fn of(q: Query) -> Given
         ensures n320 { option_of result.n320 ≡ (inspect_of q).n320 }
         ensures n300 { option_of result.n300 ≡ (inspect_of q).n300 }
@@ -72,10 +73,7 @@ fn if_none(n: Option<u32>, a: Hits, b: Hits) -> Hits
 fn clamp(n: Option<u32>, room: Hits) -> Hits
     ensures { (result.0 ≡ clamped (option_of n) room.0) × (result.0 ≤ room.0) }
 {
-    match n {
-        Some(n) => Hits(n).min(room),
-        None => Hits(0),
-    }
+    n.map_or(Hits(0), |n| Hits(n).min(room))
 }
 
 // The points that the target asks beyond the preliminary counts: the product and the subtraction round separately.
@@ -150,7 +148,7 @@ impl Partial {
     }
 
     // One missing: fill in the missing value.
-    #[tactic(auto, using(crate::proofs::Steps::one_is))]
+    #[tactic(auto, unfolding(crate::specs::Fast::one_missing))]
     fn one_missing(self, q: Query) -> HitResults
         ensures { result ≡ Fast.one_missing (inspect_of q) (remain_of self) self.counts.misses (prelim_of self.counts) }
     {
@@ -166,6 +164,7 @@ impl Partial {
     }
 
     // Start by assuming every non-miss is an n50 (baseline).
+    #[tactic(auto, unfolding(crate::specs::Fast::delta_of, crate::specs::Fast::numerator, score_state::specs::Points::points))]
     fn delta(self, acc: Acc, classic: bool, total: Hits) -> Points
         requires { total.0 ≤ most_hits }
         ensures { result.0 ≡ Fast.delta_of acc.value (perfect_weight classic) total.0 (remain_of self) (prelim_of self.counts) }
@@ -212,23 +211,25 @@ impl Partial {
     fn plus_left(self, q: Query) -> HitResults
         ensures { result ≡ plus_left (left_place (inspect_of q).priority (inspect_of q)) self.left.0 self.counts }
     {
-        let n = self.counts;
+        let mut counts = self.counts;
         let left = self.left.0;
         match (q.priority, Given::of(q)) {
-            (0, Given { n320: None, .. }) => HitResults { n320: n.n320 + left, ..n },
-            (0, Given { n300: None, .. }) => HitResults { n300: n.n300 + left, ..n },
-            (0, Given { n200: None, .. }) => HitResults { n200: n.n200 + left, ..n },
-            (0, Given { n100: None, .. }) => HitResults { n100: n.n100 + left, ..n },
-            (0, _) => HitResults { n50: n.n50 + left, ..n },
-            (_, Given { n50: None, .. }) => HitResults { n50: n.n50 + left, ..n },
-            (_, Given { n100: None, .. }) => HitResults { n100: n.n100 + left, ..n },
-            (_, Given { n200: None, .. }) => HitResults { n200: n.n200 + left, ..n },
-            (_, Given { n300: None, .. }) => HitResults { n300: n.n300 + left, ..n },
-            (_, _) => HitResults { n320: n.n320 + left, ..n },
+            (0, Given { n320: None, .. }) => counts.n320 += left,
+            (0, Given { n300: None, .. }) => counts.n300 += left,
+            (0, Given { n200: None, .. }) => counts.n200 += left,
+            (0, Given { n100: None, .. }) => counts.n100 += left,
+            (0, _) => counts.n50 += left,
+            (_, Given { n50: None, .. }) => counts.n50 += left,
+            (_, Given { n100: None, .. }) => counts.n100 += left,
+            (_, Given { n200: None, .. }) => counts.n200 += left,
+            (_, Given { n300: None, .. }) => counts.n300 += left,
+            (_, _) => counts.n320 += left,
         }
+        counts
     }
 
     // What is still left goes to the first missing judgement by priority.
+    #[tactic(auto, using(crate::proofs::Steps::left_added, crate::proofs::Steps::none_left))]
     fn add_left(self, q: Query) -> HitResults
         ensures { result ≡ Fast.add_left (inspect_of q) (total_of self) self.counts }
     {
@@ -252,6 +253,7 @@ impl Partial {
 
 // Method 1, Fast, at a given accuracy: five zeros where nothing remains; else by how many counts are missing. Without an accuracy it
 // is IgnoreAccuracy, as the Rust's first lines say; `generate` asks that of all methods in one place.
+#[tactic(auto, unfolding(crate::specs::Fast::with_acc, inspect::specs::Inspect::remain))]
 pub fn generate_hitresults(q: Query, acc: Acc) -> HitResults
     requires { Domain q }
     ensures { result ≡ Fast.with_acc acc.value (inspect_of q) }

@@ -1,12 +1,8 @@
 -- `fast::generate_hitresults` meets its contract. Assumes nothing.
 use mathlib.Core.Path.{sym, ◌∙◌}
-use Rattle.fast.proofs.Steps.{zero_is, all-is, four_is, few-is}
+use Rattle.std.proofs.Common.{rules}
+use Rattle.fast.proofs.Steps.{all-is, four_is, few-is}
 use Rattle.fast.proofs.generate_hitresults.Goals as goal
-
-pub returns-then-eq : goal.returns-then-eq
-returns-then-eq c =
-    zero_is c.args.acc.value c.args.q c.total_hits-total.ensures.0 c.misses-misses.ensures.0 c.sub-remain.ensures
-    (sym c.eq.ensures ∙ c.if-eq.true)
 
 pub returns-in-Nothing : goal.returns-in-Nothing
 returns-in-Nothing c =
@@ -22,4 +18,4 @@ pub returns-in-Two : goal.returns-in-Two
 returns-in-Two c =
     few-is c.args.acc.value c.args.q c.total_hits-total.ensures.0 c.misses-misses.ensures.0 c.sub-remain.ensures
     c.prelim-p.result (sym c.eq.ensures ∙ c.if-eq.false) c.prelim-p.ensures
-    c.missing_of.result c.missing_of.ensures c.in-Two.in-Two-own.keys3 c.three_or_fewer.ensures
+    c.missing_of.result c.missing_of.ensures (search rules) c.three_or_fewer.ensures

@@ -1,5 +1,5 @@
 -- `fast::Partial::upgrades` meets its contract. Assumes nothing.
-use mathlib.Core.Path.{ap, ◌∙◌}
+use mathlib.Core.Path.{ap}
 use Prim.Native.Nat.{ℕ, ◌+◌}
 use Rattle.inspect.specs.Inspect.{inspect_of}
 use Rattle.units.proofs.Order.{min_of}
