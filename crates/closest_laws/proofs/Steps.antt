@@ -102,13 +102,8 @@ pub values_two
 unfolding values
 values_two room lo hi l t u el et eu = two_values el et eu
 
--- `unwrap_or` of a count that is 0 where it is missing
-pub or-given : (h : Bool) (n d : ℕ) → h ≡ true → or (given h n) d ≡ n
+-- `unwrap_or` of a count
+pub or_given : (h : Bool) (n d : ℕ) → or (given h n) d ≡ cond h n d
 unfolding or
-or-given true n d e = refl
-or-given false n d e = absurd (false≢true e)
-
-pub or-missing : (h : Bool) (n d : ℕ) → h ≡ false → or (given h n) d ≡ d
-unfolding or
-or-missing true n d e = absurd (true≢false e)
-or-missing false n d e = refl
+or_given true n d = refl
+or_given false n d = refl
