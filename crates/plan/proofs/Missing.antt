@@ -51,11 +51,7 @@ missing-length w p g = simp length_step refl
 
 -- ---- The arms of a match on how many are missing.
 
--- the cases but `Nothing`, and the last two
-pub some-missing : (n : ℕ) (m : Missing) → m ≡ missing_of n → (m ≡ Nothing → ⊥) → 1 ≤ n
-some-missing zero m e o = absurd (o e)
-some-missing (suc n) m e o = omega arith
-
+-- the last two cases
 pub two_missing : (n : ℕ) (m : Missing) → m ≡ missing_of n → m ≡ Two ⊎ m ≡ ThreePlus → 2 ≤ n
 two_missing zero m e o = absurd (none m e o)
   where
