@@ -2,7 +2,7 @@
 // between them with their strides.
 #![tactic(auto)]
 
-ghost use Rattle.std.specs.Prelude.{◌≡◌, cond, eqb, ℕ, ◌<◌};
+ghost use Rattle.std.specs.Prelude.{All, fold, ◌≡◌, cond, eqb, ℕ, ◌<◌};
 ghost use Rattle.score_state.specs.Points.{weights_of};
 ghost use Rattle.score_state.specs.Given.{missing};
 ghost use Rattle.score_state.specs.declared.HitResults as Counts;
@@ -56,26 +56,42 @@ pub fn folded(weights: Weights, presence: u8) -> u8
     }
 }
 
+// The weight of the last of these judgements that is missing, 0 where none is. A judgement is its place value and its weight.
+fn last_missing(presence: u8, judgements: [(u8, u32); 5]) -> u32
+    requires { All (λ j. 0 < j.0) judgements }
+    ensures { result ≡ fold (λ w j. cond (has presence j.0) w j.1) 0 judgements }
+{
+    judgements
+        .iter()
+        .fold(0, |found, j| inspect::pick(presence, j.0, j.1, found))
+}
+
 // The heaviest missing weight, 0 where none is missing.
 fn heaviest(weights: Weights, presence: u8) -> u32
     ensures { (g : Counts.HitResults) → result ≡ first_of 0 (missing (weights_of weights) (givens_of presence g)) }
 {
-    let n50 = inspect::pick(presence, inspect::N50, weights.n50, 0);
-    let n100 = inspect::pick(presence, inspect::N100, weights.n100, n50);
-    let n200 = inspect::pick(presence, inspect::N200, weights.n200, n100);
-    let n300 = inspect::pick(presence, inspect::N300, weights.n300, n200);
-    inspect::pick(presence, inspect::N320, weights.n320, n300)
+    let from_lightest = [
+        (inspect::N50, weights.n50),
+        (inspect::N100, weights.n100),
+        (inspect::N200, weights.n200),
+        (inspect::N300, weights.n300),
+        (inspect::N320, weights.n320),
+    ];
+    last_missing(presence, from_lightest)
 }
 
 // The lightest missing weight, 0 where none is missing.
 fn lightest(weights: Weights, presence: u8) -> u32
     ensures { (g : Counts.HitResults) → result ≡ Walk.last_of 0 (missing (weights_of weights) (givens_of presence g)) }
 {
-    let n320 = inspect::pick(presence, inspect::N320, weights.n320, 0);
-    let n300 = inspect::pick(presence, inspect::N300, weights.n300, n320);
-    let n200 = inspect::pick(presence, inspect::N200, weights.n200, n300);
-    let n100 = inspect::pick(presence, inspect::N100, weights.n100, n200);
-    inspect::pick(presence, inspect::N50, weights.n50, n100)
+    let from_heaviest = [
+        (inspect::N320, weights.n320),
+        (inspect::N300, weights.n300),
+        (inspect::N200, weights.n200),
+        (inspect::N100, weights.n100),
+        (inspect::N50, weights.n50),
+    ];
+    last_missing(presence, from_heaviest)
 }
 
 // The stride at a place: q where its count is missing and its weight lies between a and c, 1 elsewhere.
