@@ -1,4 +1,4 @@
--- `over_of`: what was found of the charts before k, with what is still to be found, is what is to be found of all.
+-- `Over::of`: what was found of the charts before k, with what is still to be found, is what is to be found of all.
 use Prim.Native.Nat.{◌-◌}
 use mathlib.Core.Path.{◌≡◌, sym, ◌∙◌}
 use native.Mathlib.Nat.{sub-zero}
@@ -6,10 +6,10 @@ use native.Mathlib.Omega.{arith}
 use Rattle.relay_laws.specs.Plays.{chart_count}
 use Rattle.relay_laws.specs.Checks.{over_chart, over_misses}
 use Rattle.relay_plays.proofs.Any.{any_next, any_end}
-use Rattle.relay_plays.proofs.over_of.Goals as goal
+use Rattle.relay_plays.proofs.Over.of.Goals as goal
 
 pub loop-k-init : goal.loop-k-init
-loop-k-init c = (omega arith, rw sub-zero, rw sub-zero)
+loop-k-init c = (omega arith, rw (sub-zero, c.default-over.ensures.0), rw (sub-zero, c.default-over.ensures.1))
 
 pub loop-k-preserved : goal.loop-k-preserved
 loop-k-preserved c =
