@@ -1,47 +1,32 @@
 -- `sheets::work_sheet` meets its contract; demand 3 and L8 are laws of its equation. Assumes nothing.
-use Rattle.sheets.specs.declared.SheetAnswer.TheVariants.{Worked, Refused}
-use Rattle.sheets.proofs.Laws.{claims}
-use mathlib.Core.Path.{◌≡◌, sym, ◌∙◌}
-use mathlib.Core.List.{List}
-use Prim.Native.Nat.{ℕ, ◌≤◌}
-use native.Mathlib.Omega.{arith}
-use lib.ListN.{length}
-use Rattle.sheets_laws.specs.Sheets.{queries_at, sheet_stop}
-use Rattle.sheets_laws.proofs.Accepted.{QueriesIn, accepted, sheet-stopped, sheet-from}
+use Rattle.std.proofs.Common.{◌≡◌, Result, Err, sym, ap, ◌∙◌, ◌≤◌, length, arith}
+use Rattle.refusals.specs.declared.Refusal.{Refusal}
+use Rattle.refusals.specs.Refusal.{number_of}
+use Rattle.refusals.proofs.Numbers.{never_zero}
+use Rattle.score_state.proofs.Handed.{err_handed}
+use Rattle.sheets_laws.proofs.Accepted.{accepted, sheet-stopped, sheet-from}
+use Rattle.sheets.specs.Worked.{worked_of}
+use Rattle.sheets.specs.declared.Worked.{Worked}
+use Rattle.sheets.proofs.Laws.{told, claims}
 use Rattle.sheets.proofs.work_sheet.Goals as goal
 
-pub returns-then-stop-gt0 : goal.returns-then-stop-gt0
-returns-then-stop-gt0 c =
+pub returns-in_err-check-clause-equation : goal.returns-in_err-check-clause-equation
+returns-in_err-check-clause-equation c =
     let x = c.args in
-    let e = sheet-stopped x.sheet.now x.out.now c.sheet_stop-stop.result c.sheet_stop-stop.ensures (omega arith) in
-    let a = claims (Refused c.sheet_stop-stop.result) x.sheet.now x.out.now _ e in record { equation = a.0; totals = a.1.0; demand3 = a.1.1.0; rising = a.1.1.1 }
+    let f = c.in_err-check.field-0.0 in
+    ap (λ (r : Result Worked Refusal). worked_of r x.out.now) (err_handed c.from_residual.result f c.from_residual.ensures.1)
+    ∙ sheet-stopped x.sheet.now x.out.now (number_of f) c.in_err-check.ensures (never_zero f)
 
--- a sheet that no check stops
-unstopped : (s : List ℕ) (room n : ℕ) → n ≡ sheet_stop s room → n ≤ 0 → sheet_stop s room ≡ 0
-unstopped s room n e h = let z : n ≡ 0 = omega arith in sym e ∙ z
-
-pub work_accepted-queries-requires : goal.work_accepted-queries-requires
-work_accepted-queries-requires c = unstopped c.args.sheet.now (length c.args.out.now) _ c.sheet_stop-stop.ensures (omega arith)
-
--- its queries
-queries : (s : List ℕ) (room n : ℕ) → n ≡ sheet_stop s room → n ≤ 0 → QueriesIn s (queries_at s) room
-queries s room n e h = (accepted s room (unstopped s room n e h)).queries
-
-pub totals_of-totals-requires : goal.totals_of-totals-requires
-totals_of-totals-requires c =
-    let q = queries c.args.sheet.now (length c.args.out.now) _ c.sheet_stop-stop.ensures (omega arith) in
+-- no check stops the sheet: its queries are few, and their answers have room
+pub totals_of-requires : goal.totals_of-requires
+totals_of-requires c =
+    let q = (accepted c.args.sheet.now (length c.args.out.now) (sym c.in_ok-check.ensures)).queries in
     let e = c.work_accepted-queries.ensures.0 in
     (omega (arith, q.few, e), omega (arith, q.room, e))
-
-pub overflow_cast-result : goal.overflow_cast-result
-overflow_cast-result c =
-    let q = queries c.args.sheet.now (length c.args.out.now) _ c.sheet_stop-stop.ensures (omega arith) in
-    let e = c.work_accepted-queries.ensures.0 in
-    omega (arith, q.few, e)
 
 pub returns : goal.returns
 returns c =
     let x = c.args in
     let w = c.work_accepted-queries in
-    let e = sheet-from x.sheet.now x.out.now w.result _ _ (unstopped c.args.sheet.now (length c.args.out.now) _ c.sheet_stop-stop.ensures (omega arith)) w.ensures.0 w.ensures.1 c.totals_of-totals.ensures in
-    let a = claims (Worked w.result c.totals_of-totals.result) x.sheet.now x.out.now _ e in record { equation = a.0; totals = a.1.0; demand3 = a.1.1.0; rising = a.1.1.1 }
+    let e = sheet-from x.sheet.now x.out.now w.result _ _ (sym c.in_ok-check.ensures) w.ensures.0 w.ensures.1 c.totals_of.ensures in
+    let a = claims (told w.result c.totals_of.result) x.sheet.now x.out.now _ e in record { equation = a.0; totals = a.1.0; demand3 = a.1.1.0; rising = a.1.1.1 }
