@@ -23,10 +23,8 @@ fn put_fields(text: &mut [u8], at: usize, out: &[u8], from: usize) -> usize
     ensures upper_bound { result ≤ at + 88 }
 {
     let mut end = at;
-    let mut k: usize = 0;
-    while k < 8 {
+    for k in 0..8 {
         end = put_field(text, end, out, from, k);
-        k += 1;
     }
     end
 }

@@ -24,10 +24,8 @@ fn put_rows(text: &mut [u8], at: usize, out: &[u8], n: usize) -> usize
     ensures upper_bound { result ≤ at + 105 * n }
 {
     let mut end = at;
-    let mut i: usize = 0;
-    while i < n {
+    for i in 0..n {
         end = row_text::put_row(text, end, out, i);
-        i += 1;
     }
     end
 }

@@ -26,10 +26,8 @@ fn put_sums(text: &mut [u8], at: usize, seven: [u64; 7]) -> usize
     ensures upper_bound { result ≤ at + 147 }
 {
     let mut end = at;
-    let mut j: usize = 0;
-    while j < 7 {
+    for j in 0..7 {
         end = put_sum(text, end, seven[j]);
-        j += 1;
     }
     end
 }
