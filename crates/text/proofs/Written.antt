@@ -52,7 +52,7 @@ next_piece f n p q = rw (add-one n) (followed p q)
 
 -- a text that was begun in a buffer: it is counted, it is the buffer's front, and what is beyond stays
 module _ {t₀ t₁ : Text} {s xs : List ℕ} {n : ℕ} (p : Gained t₀ t₁ xs) (e : t₀.len ≡ 0) (b : t₀.bytes.now ≡ s) (l : n ≡ t₁.len) where
-  at_start : Appended s 0 t₁.bytes.now n xs
+  pub at_start : Appended s 0 t₁.bytes.now n xs
   at_start = rw (← b, ← e, l) (as_appended p)
 
   pub counted : IsPrefixLen n t₁.bytes.now
