@@ -1,3 +1,4 @@
+pub mod Faults
 pub mod Lines
 pub mod Words
 pub mod Values
