@@ -10,11 +10,12 @@ use lib.Dec.{eqb}
 use lib.ListN.{length, take, drop, get_or}
 use borrow.Author.Tests.{eq-eqb, ne_eqb, eqb-true}
 use Rattle.std.specs.Bool.{MatchBool}
-use Rattle.std.specs.List.{AllWithin, HoldsAt, zip}
+use Rattle.std.specs.List.{AllWithin, HoldsAt, zip, position_from}
 use Rattle.std.proofs.lemmas.Slice.Zip.{length-zip, get_or-zip}
 use Rattle.std.specs.Char.{to_ascii_lowercase}
 use Rattle.std.proofs.lemmas.Bool.Decides.{nat_tests}
-use Rattle.words.specs.Words.{blanks, word_size, words_from, small, says, among, bytes_of}
+use Rattle.words.specs.Lines.{Part}
+use Rattle.words.specs.Words.{small, says, bytes_of}
 use Rattle.words.proofs.Sizes.{over}
 use Rattle.words.proofs.Follow.{words-none, words-some}
 
@@ -96,23 +97,7 @@ says_paired w k false l h =
     let e = get_or-zip w k i (0, 0) b (omega arith) in
     sym (one_off w k i l b (λ a. subst Unlike e (h.2 (0, 0)) (lowercase-small (get_or w i 0) ∙ a)))
 
--- ---- keyword by keyword, in a line s of them
-module _ (w s : List ℕ) (at a e n : ℕ) (h : a ≡ at + blanks (drop at s)) (k : e ≡ a + word_size (drop a s)) where
-  abbrev left : ℕ → ℕ
-  left i = among w (bytes_of (words_from (0 + i) false (drop i s)))
-
-  pub among_none : e ≡ a → n + left at ≡ n
-  unfolding among
-  among_none z = rw (words-none s 0 at a e h k z) (omega arith)
-
-  pub among-found : (e ≡ a → ⊥) → says w (take (e - a) (drop a s)) ≡ true → n + left at ≡ n
-  unfolding among
-  among-found z f = rw (words-some s 0 at a e h k z, f) (omega arith)
-
-  pub among_on : (e ≡ a → ⊥) → says w (take (e - a) (drop a s)) ≡ false → n + left at ≡ n + 1 + left e
-  unfolding among
-  among_on z f = rw (words-some s 0 at a e h k z, f) (omega arith)
-
-pub among-over : (w s : List ℕ) (at n : ℕ) → length s ≤ at → n + among w (bytes_of (words_from (0 + at) false (drop at s))) ≡ n
-unfolding among words_from
-among-over w s at n h = rw (over s at h) (omega arith)
+-- ---- the first of the words of a line that is a keyword
+pub bytes_searched : (test : List ℕ → Bool) (ps : List Part) (i : ℕ) → position_from (λ p. test p.bytes) i ps ≡ position_from test i (bytes_of ps)
+bytes_searched test [] i = refl
+bytes_searched test (p ∷ ps) i = rw (bytes_searched test ps (i + 1))

@@ -7,13 +7,13 @@ ghost use Rattle.std.specs.Float.{binary64};
 ghost use Rattle.std.specs.Float.Ieee.{round, to_bits};
 ghost use Rattle.words.specs.Faults.{fault_number};
 ghost use Rattle.words.specs.Lines.{line_size, unended};
-ghost use Rattle.words.specs.Words.{blank, parting, blanks, word_size, says, among, bytes_of, words};
+ghost use Rattle.words.specs.Words.{blank, parting, blanks, word_size, says, place, bytes_of, words};
 ghost use Rattle.words.specs.Values.{number_of, before_point, behind_point, percent_of, hex_digit, hex_of};
 
 // The faults of a typed sheet, in the order of their numbers, 1 to 14.
 #[derive(Clone, Copy, PartialEq, Eq, Debug)]
 pub enum Fault {
-    BeginsNoLine,
+    BeginsNoLine = 1,
     OneTooMany,
     NoOption,
     GivenTwice,
@@ -33,22 +33,7 @@ impl From<Fault> for u32 {
     ghost from_gives = { λ f n. n ≡ fault_number f };
 
     fn from(fault: Fault) -> u32 {
-        match fault {
-            Fault::BeginsNoLine => 1,
-            Fault::OneTooMany => 2,
-            Fault::NoOption => 3,
-            Fault::GivenTwice => 4,
-            Fault::ValueMissing => 5,
-            Fault::NoWholeNumber => 6,
-            Fault::NumberTooLarge => 7,
-            Fault::NoPercentage => 8,
-            Fault::NotHex => 9,
-            Fault::NoMethod => 10,
-            Fault::ChartTooLarge => 11,
-            Fault::TooManyCharts => 12,
-            Fault::TooManyWeights => 13,
-            Fault::TooManyPlays => 14,
-        }
+        fault as u32
     }
 }
 
@@ -65,6 +50,49 @@ pub fn line_end(s: &[u8], at: usize) -> usize
     ensures { (result ≡ at + line_size (drop at s.now)) × (result ≤ length s.now) }
 {
     at + first_lf(&s[at..]).unwrap_or(s.len() - at)
+}
+
+// The lines of a text that are left: its rest, and where that starts.
+#[derive(Drop)]
+pub struct Lines<'a> {
+    at: usize,
+    rest: &'a [u8],
+    ghost in_range: { at + length rest.now ≤ 18446744073709551615 },
+}
+
+impl<'a> Lines<'a> {
+    ghost use Rattle.words.specs.Lines.{lines};
+    ghost use Rattle.words.specs.Walk.{lines_left};
+
+    pub fn new(text: &'a [u8]) -> Lines<'a>
+        ensures { lines_left result ≡ lines text.now }
+    {
+        Lines { at: 0, rest: text }
+    }
+}
+
+// Each line with where it starts.
+impl<'a> Iterator for Lines<'a> {
+    ghost use Rattle.std.specs.Iterator.{YieldsFirstBy, item_count};
+    ghost use Rattle.words.specs.Walk.{lines_left, part_of};
+
+    type Item = (usize, &'a [u8]);
+
+    ghost next_gives = { YieldsFirstBy part_of lines_left };
+
+    ghost remaining = { item_count lines_left };
+
+    fn next(&mut self) -> Option<(usize, &'a [u8])> {
+        if self.rest.is_empty() {
+            return None;
+        }
+        let e = line_end(self.rest, 0);
+        let line = (self.at, &self.rest[..e]);
+        let n = self.rest.len().min(e + 1);
+        self.at += n;
+        self.rest = &self.rest[n..];
+        Some(line)
+    }
 }
 
 // How many bytes a line has without a CR that is its last byte.
@@ -133,27 +161,53 @@ fn is_keyword(w: &[u8], k: &[u8]) -> bool
             .all(|(b, letter)| b.to_ascii_lowercase() == *letter)
 }
 
-// How many keywords stand before the one that a word is, or how many there are; they are the words of a line.
-pub fn place_in(w: &[u8], keywords: &[u8]) -> u32
-    requires { length keywords.now ≤ 4294967295 }
-    ensures value { result ≡ among w.now (bytes_of (words 0 keywords.now)) }
-    ensures upper_bound { result ≤ length keywords.now }
-{
-    let mut n: u32 = 0;
-    let mut at: usize = 0;
-    while at < keywords.len() {
-        let a = skip_blanks(keywords, at);
-        let e = word_end(keywords, a);
-        if e == a {
-            return n;
-        }
-        if is_keyword(w, &keywords[a..e]) {
-            return n;
-        }
-        n += 1;
-        at = e;
+// The words of a line that are left: its rest, and where that starts.
+#[derive(Drop)]
+pub struct Words<'a> {
+    at: usize,
+    rest: &'a [u8],
+    ghost in_range: { at + length rest.now ≤ 18446744073709551615 },
+}
+
+impl<'a> Words<'a> {
+    ghost use Rattle.words.specs.Walk.{words_left};
+
+    // The words of a line that starts at a place.
+    pub fn new(at: usize, line: &'a [u8]) -> Words<'a>
+        requires { at + length line.now ≤ 18446744073709551615 }
+        ensures { words_left result ≡ words at line.now }
+    {
+        Words { at, rest: line }
     }
-    n
+}
+
+// Each word with where it starts.
+impl<'a> Iterator for Words<'a> {
+    ghost use Rattle.std.specs.Iterator.{YieldsFirstBy, item_count};
+    ghost use Rattle.words.specs.Walk.{words_left, part_of};
+
+    type Item = (usize, &'a [u8]);
+
+    ghost next_gives = { YieldsFirstBy part_of words_left };
+
+    ghost remaining = { item_count words_left };
+
+    fn next(&mut self) -> Option<(usize, &'a [u8])> {
+        let a = skip_blanks(self.rest, 0);
+        let e = word_end(self.rest, a);
+        let word = (self.at + a, &self.rest[a..e]);
+        self.at += e;
+        self.rest = &self.rest[e..];
+        if e == a { None } else { Some(word) }
+    }
+}
+
+// Which of the keywords a word is; they are the words of a line.
+pub fn place_in(w: &[u8], keywords: &[u8]) -> Option<usize>
+    requires { length keywords.now ≤ 4294967295 }
+    ensures { result ≡ place w.now (bytes_of (words 0 keywords.now)) }
+{
+    Words::new(0, keywords).position(|(_, k)| is_keyword(w, k))
 }
 
 // A whole number.
