@@ -1,9 +1,8 @@
 // A word, and the words of an accuracy, appended to a lent buffer: each call is told where its piece starts and answers where it ends.
 #![tactic(auto)]
 
-ghost use Rattle.std.specs.Prelude.{◌≡◌, [], ◌∷◌, ◌+◌, ◌*◌, ◌^◌, ◌≤◌, ◌<◌, length};
+ghost use Rattle.std.specs.Prelude.{◌≡◌, [], ◌∷◌, ◌+◌, ◌*◌, ◌^◌, ◌≤◌, ◌<◌, length, None};
 ghost use Rattle.text.specs.Text.{Appended};
-ghost use Rattle.percent.specs.declared.Percentage.TheVariants.{Missing};
 ghost use Rattle.accuracy_text.specs.AccuracyText.{spaced, hex_letter, last_digits, percent_text, words_by, accuracy_words};
 
 use percent::Percentage;
@@ -88,7 +87,7 @@ fn put_percent(text: &mut [u8], at: usize, digits: u64, places: u32) -> usize
 
 fn put_bits(text: &mut [u8], at: usize, bits: u64) -> usize
     requires { at + 25 ≤ length text.old }
-    ensures appended { Appended text.old at text.new result (spaced (words_by Missing bits)) }
+    ensures appended { Appended text.old at text.new result (spaced (words_by None bits)) }
     ensures upper_bound { result ≤ at + 25 }
 {
     let name_end = put_word(text, at, b"accbits");
@@ -106,10 +105,10 @@ pub fn put_accuracy(text: &mut [u8], at: usize, given: bool, bits: u64) -> usize
         return at;
     }
     match percent::percentage_of(bits) {
-        Percentage::Has(digits, places) => {
+        Some(Percentage { digits, places }) => {
             let name_end = put_word(text, at, b"acc");
             put_percent(text, name_end, digits, places)
         }
-        Percentage::Missing => put_bits(text, at, bits),
+        None => put_bits(text, at, bits),
     }
 }

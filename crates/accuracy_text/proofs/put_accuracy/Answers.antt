@@ -3,7 +3,8 @@ use mathlib.Core.Path.{sym, ap, ◌∙◌}
 use mathlib.Core.List.{[], ◌∷◌}
 use native.Mathlib.Omega.{arith}
 use Rattle.text.proofs.Appended.{nothing, followed, restated}
-use Rattle.percent.specs.declared.Percentage.TheVariants.{Has, Missing}
+use Rattle.std.specs.Prelude.{Some, None}
+use Rattle.percent.specs.Percent.{percentage}
 use Rattle.percent.proofs.Fewest.{shortest-reads}
 use Rattle.typed_line.specs.Keywords.{acc}
 use Rattle.accuracy_text.specs.AccuracyText.{spaced, percent_text, words_by}
@@ -18,21 +19,21 @@ returns-then-not-given c =
 
 pub put_percent-requires : goal.put_percent-requires
 put_percent-requires c =
-    let r = shortest-reads c.args.bits c.in-Has.digits c.in-Has.places (sym c.percentage_of.ensures ∙ c.in-Has.is) in
+    let r = shortest-reads c.args.bits c.in-Some.digits c.in-Some.places (sym c.percentage_of.ensures ∙ c.in-Some.is) in
     record { at_in_bounds = omega arith; places_bound = (r.few, r.small) }
 
-pub returns-in-Has : goal.returns-in-Has
+pub returns-in-Some : goal.returns-in-Some
 unfolding words_by acc
-returns-in-Has c =
+returns-in-Some c =
     let x = c.args in
     let p = c.put_word-name_end.ensures in
     let q = c.put_percent.ensures in
-    let w = words-by x.given x.bits (Has c.in-Has.digits c.in-Has.places) c.if-not-given.false (sym c.in-Has.is ∙ c.percentage_of.ensures) in
-    record { appended = restated (followed p.appended q.appended (omega arith)) (two (acc ∷ []) (percent_text c.in-Has.digits c.in-Has.places ∷ []) ∙ ap spaced w); upper_bound = omega arith }
+    let w = words-by x.given x.bits (Some (percentage c.in-Some.digits c.in-Some.places)) c.if-not-given.false (sym c.in-Some.is ∙ c.percentage_of.ensures) in
+    record { appended = restated (followed p.appended q.appended (omega arith)) (two (acc ∷ []) (percent_text c.in-Some.digits c.in-Some.places ∷ []) ∙ ap spaced w); upper_bound = omega arith }
 
-pub returns-in-Missing : goal.returns-in-Missing
-returns-in-Missing c =
+pub returns-in-None : goal.returns-in-None
+returns-in-None c =
     let x = c.args in
     let p = c.put_bits.ensures in
-    let w = words-by x.given x.bits Missing c.if-not-given.false (sym c.in-Missing.is ∙ c.percentage_of.ensures) in
+    let w = words-by x.given x.bits None c.if-not-given.false (sym c.in-None.is ∙ c.percentage_of.ensures) in
     record { appended = restated p.appended (ap spaced w); upper_bound = omega arith }
