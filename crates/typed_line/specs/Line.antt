@@ -116,7 +116,7 @@ unfolding slot after
 fills l f (Ok n) = stores l (slot f) n (after l.kind f)
 fills l f (Err fault) = told l fault
 
-abbrev pub judged_as : Want → Line → List ℕ → Line
+unfoldable pub judged_as : Want → Line → List ℕ → Line
 unfolding names fills value_for kind_of option_of
 judged_as FirstWord l w = opens l (kind_of w)
 judged_as Nothing l w = told l OneTooMany
@@ -124,7 +124,7 @@ judged_as OptionName l w = names l (option_of w)
 judged_as (Value f) l w = fills l f (value_for f w)
 
 unfoldable pub judged : Line → List ℕ → Line
-unfolding names fills value_for kind_of option_of
+unfolding judged_as
 judged l w = judged_as l.want l w
 
 -- a word more; after a fault the line stays as it is

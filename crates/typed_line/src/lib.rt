@@ -281,7 +281,7 @@ impl Line {
         }
     }
 
-    #[tactic(auto, unfolding(crate::specs::Line::judged))]
+    #[tactic(auto, unfolding(crate::specs::Line::judged, crate::specs::Line::judged_as))]
     fn judge(self, w: &[u8]) -> Line
         ensures { result ≡ judged self w.now }
     {
