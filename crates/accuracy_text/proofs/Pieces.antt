@@ -8,6 +8,7 @@ use native.Mathlib.Nat.{zero-add, suc-add, div-one, pow-zero, div-div-eq-div-mul
 use native.Mathlib.Omega.{arith}
 use lib.ListN.{length, take, drop, set}
 use lib.Seq.{set_split, drop_at, drop-drop, take-length, length-take-le}
+use Rattle.std.specs.Prelude.{Option}
 use Rattle.text.specs.declared.Text.{Text}
 use Rattle.text.specs.Text.{decimal_text}
 use Rattle.text.specs.Written.{Gained}
@@ -112,6 +113,6 @@ module _ (given : Bool) (bits : ℕ) where
   unfolding accuracy_words
   words-none g = rw g
 
-  pub words-by : (p : Percentage) → given ≡ true → p ≡ shortest bits → words_by p bits ≡ accuracy_words given bits
+  pub words-by : (p : Option Percentage) → given ≡ true → p ≡ shortest bits → words_by p bits ≡ accuracy_words given bits
   unfolding accuracy_words
   words-by p g e = rw (g, e)

@@ -1,9 +1,8 @@
 // A word, and the words of an accuracy.
 #![tactic(auto)]
 
-ghost use Rattle.std.specs.Prelude.{◌≡◌, [], ◌∷◌, ◌+◌, ◌*◌, ◌^◌, ◌≤◌, ◌<◌, length};
+ghost use Rattle.std.specs.Prelude.{◌≡◌, [], ◌∷◌, ◌+◌, ◌*◌, ◌^◌, ◌≤◌, ◌<◌, length, None};
 ghost use Rattle.text.specs.Written.{HasRoom, Gained};
-ghost use Rattle.percent.specs.declared.Percentage.TheVariants.{Missing};
 ghost use Rattle.accuracy_text.specs.AccuracyText.{spaced, hex_letter, last_digits, percent_text, words_by, accuracy_words};
 
 use percent::Percentage;
@@ -55,24 +54,24 @@ fn put_last(text: &mut Text<'_>, n: u64, count: usize)
 }
 
 // A space and a percentage: digits without the point, so many of them behind it.
-fn put_percent(text: &mut Text<'_>, digits: u64, places: u32)
+fn put_percent(text: &mut Text<'_>, p: Percentage)
     requires room { HasRoom text.old 18 }
-    requires places_bound { (places ≤ 12) × (digits < 1000 * 10 ^ places) }
-    ensures gained { Gained text.old text.new (spaced (percent_text digits places ∷ [])) }
+    requires places_bound { (p.places ≤ 12) × (p.digits < 1000 * 10 ^ p.places) }
+    ensures gained { Gained text.old text.new (spaced (percent_text p.digits p.places ∷ [])) }
     ensures upper_bound { text.new.len ≤ text.old.len + 18 }
 {
-    let before = digits / 10u64.pow(places);
+    let before = p.digits / 10u64.pow(p.places);
     text.put_byte(b' ');
     text.put_decimal(before as u32);
-    if places > 0 {
+    if p.places > 0 {
         text.put_byte(b'.');
-        put_last(text, digits, places as usize);
+        put_last(text, p.digits, p.places as usize);
     }
 }
 
 fn put_bits(text: &mut Text<'_>, bits: u64)
     requires { HasRoom text.old 25 }
-    ensures gained { Gained text.old text.new (spaced (words_by Missing bits)) }
+    ensures gained { Gained text.old text.new (spaced (words_by None bits)) }
     ensures upper_bound { text.new.len ≤ text.old.len + 25 }
 {
     put_word(text, b"accbits");
@@ -89,10 +88,10 @@ pub fn put_accuracy(text: &mut Text<'_>, given: bool, bits: u64)
         return;
     }
     match percent::percentage_of(bits) {
-        Percentage::Has(digits, places) => {
+        Some(p) => {
             put_word(text, b"acc");
-            put_percent(text, digits, places);
+            put_percent(text, p);
         }
-        Percentage::Missing => put_bits(text, bits),
+        None => put_bits(text, bits),
     }
 }
