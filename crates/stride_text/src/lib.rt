@@ -6,6 +6,7 @@ ghost use Rattle.io.specs.Counts.{IsPrefixLen};
 ghost use Rattle.text.specs.Written.{HasRoom, Gained};
 ghost use Rattle.stride_text.specs.StrideText.{line_text, strides_text, printed_strides};
 
+use refusals::Refusal;
 use text::Text;
 
 // The longest table: 64 lines of five numbers of at most ten digits, each with a space or the line's end behind it.
@@ -41,16 +42,15 @@ fn put_strides(text: &mut Text<'_>, weights: &[u8])
     ensures { Gained text.old text.new (printed_strides weights.now) }
 {
     if weights.len() != 40 {
-        return text.put_refused(1);
+        return text.put_refused(Refusal::Cut.into());
     }
     let first = records::read_weights(weights, 0);
     let second = records::read_weights(weights, 20);
     let mut table = [0u32; 320];
-    let status = stride_table::fill_strides(first, second, &mut table);
-    if status != 0 {
-        return text.put_refused(status);
+    match stride_table::fill_strides(first, second, &mut table) {
+        Ok(()) => put_lines(text, &table),
+        Err(refusal) => text.put_refused(refusal.into()),
     }
-    put_lines(text, &table);
 }
 
 // Works out the table of the ten weights in these bytes and puts all that is printed of it at the start of text. It answers how many bytes

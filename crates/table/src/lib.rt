@@ -9,7 +9,6 @@ ghost use Rattle.row_text.specs.RowText.{row_text};
 ghost use Rattle.totals.specs.Totals.{seven_of};
 ghost use Rattle.table.specs.Table.{table_text, printed_of};
 
-use sheets::SheetAnswer;
 use text::Text;
 use totals::Totals;
 
@@ -49,10 +48,8 @@ pub fn print_sheet(sheet: &[u8], text: &mut [u8; ROOM]) -> usize
     let mut out = [0u8; 36864];
     let mut text = Text::new(text);
     match sheets::work_sheet(sheet, &mut out) {
-        SheetAnswer::Worked(queries, totals) => {
-            put_table(&mut text, &out, queries as usize, totals)
-        }
-        SheetAnswer::Refused(stop) => text.put_refused(stop),
+        Ok(worked) => put_table(&mut text, &out, worked.queries as usize, worked.totals),
+        Err(refusal) => text.put_refused(refusal.into()),
     }
     text.len()
 }
