@@ -8,7 +8,11 @@ use native.Mathlib.Nat.{zero-add, suc-add, div-one, pow-zero, div-div-eq-div-mul
 use native.Mathlib.Omega.{arith}
 use lib.ListN.{length, take, drop, set}
 use lib.Seq.{set_split, drop_at, drop-drop, take-length, length-take-le}
+use Rattle.std.specs.Prelude.{Option}
+use Rattle.text.specs.declared.Text.{Text}
 use Rattle.text.specs.Text.{decimal_text}
+use Rattle.text.specs.Written.{Gained}
+use Rattle.text.proofs.Written.{followed, restated}
 use Rattle.percent.specs.declared.Percentage.{Percentage}
 use Rattle.percent.specs.Percent.{shortest}
 use Rattle.accuracy_text.specs.AccuracyText.{spaced, hex_letter, last_digits, behind_text, percent_text, words_by, accuracy_words}
@@ -21,6 +25,10 @@ pub two : (ws vs : List (List ℕ)) → spaced ws ++ spaced vs ≡ spaced (ws ++
 unfolding spaced
 two [] vs = refl
 two (w ∷ ws) vs = ap (λ (x : List ℕ). 32 ∷ x) (append_assoc w (spaced ws) (spaced vs) ∙ ap (λ (x : List ℕ). w ++ x) (two ws vs))
+
+-- words behind words
+pub words : {t₀ t₁ t₂ : Text} (ws vs : List (List ℕ)) → Gained t₀ t₁ (spaced ws) → Gained t₁ t₂ (spaced vs) → Gained t₀ t₂ (spaced (ws ++ vs))
+words ws vs p q = restated (followed p q) (two ws vs)
 
 -- a number stored in front of those behind it
 pub drop-set : (l : List ℕ) (i c : ℕ) → i < length l → drop i (set l i c) ≡ c ∷ drop (suc i) l
@@ -105,6 +113,6 @@ module _ (given : Bool) (bits : ℕ) where
   unfolding accuracy_words
   words-none g = rw g
 
-  pub words-by : (p : Percentage) → given ≡ true → p ≡ shortest bits → words_by p bits ≡ accuracy_words given bits
+  pub words-by : (p : Option Percentage) → given ≡ true → p ≡ shortest bits → words_by p bits ≡ accuracy_words given bits
   unfolding accuracy_words
   words-by p g e = rw (g, e)

@@ -1,9 +1,8 @@
 -- The page 'A typed sheet' of docs/RULES.md, 'The way back': "single spaces, small letters, decimals without zeros in front", and "the accuracy if
 -- it is given: as `acc P` if a percentage has its bits, the one with the fewest digits behind the point, else as `accbits H`".
-use Rattle.std.specs.Prelude.{List, [], ◌∷◌, ◌++◌, Bool, cond, ℕ, zero, suc, ◌+◌, ◌/◌, ◌%◌, ◌^◌, ltb}
+use Rattle.std.specs.Prelude.{List, [], ◌∷◌, ◌++◌, Bool, cond, ℕ, zero, suc, ◌+◌, ◌/◌, ◌%◌, ◌^◌, ltb, Option, Some, None}
 use Rattle.text.specs.Text.{decimal_text}
 use Rattle.percent.specs.declared.Percentage.{Percentage}
-use Rattle.percent.specs.declared.Percentage.TheVariants.{Has, Missing}
 use Rattle.percent.specs.Percent.{shortest}
 use Rattle.typed_line.specs.Keywords as Key
 
@@ -38,10 +37,10 @@ unfolding behind_text
 percent_text n k = decimal_text (n / 10 ^ k) ++ behind_text k n
 
 -- an accuracy by its percentage, or by its bits
-unfoldable pub words_by : Percentage → ℕ → List (List ℕ)
+unfoldable pub words_by : Option Percentage → ℕ → List (List ℕ)
 unfolding hex_text percent_text
-words_by (Has n k) bits = Key.acc ∷ percent_text n k ∷ []
-words_by Missing bits = Key.accbits ∷ hex_text bits ∷ []
+words_by (Some p) bits = Key.acc ∷ percent_text p.digits p.places ∷ []
+words_by None bits = Key.accbits ∷ hex_text bits ∷ []
 
 unfoldable pub accuracy_words : Bool → ℕ → List (List ℕ)
 unfolding words_by

@@ -1,1 +1,3 @@
+pub mod Answer
+pub mod Within
 pub mod Code

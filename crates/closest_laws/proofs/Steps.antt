@@ -1,13 +1,14 @@
 -- The steps of the code, each over plain numbers: an offer, a loop, the ends of a loop, a rounding. Assumes nothing.
 use Prim.Native.Nat.{ℕ, zero, suc, ◌+◌, ◌-◌, ◌<◌, ◌≤◌, min}
 use mathlib.Core.Path.{◌≡◌, refl, sym, ap, ◌∙◌}
-use mathlib.Core.Bool.{Bool, true, false, not, cond, true≢false, false≢true}
+use mathlib.Core.Bool.{Bool, true, false, cond, true≢false, false≢true}
 use mathlib.Core.Option.{Option, none, some}
 use mathlib.Core.List.{List, [], ◌∷◌}
+use lib.ListN.{length, get_or, drop}
 use native.Mathlib.Numerals.{add-one}
 use native.Mathlib.Omega.{arith}
-use borrow.Author.Tests.{ltb-true, ltb-false, not-true, not-false}
-use lib.Dec.{ltb}
+use Rattle.std.proofs.Math.ListN.{drop_of_length-le}
+use Rattle.std.proofs.lemmas.List.{drop_more}
 use Rattle.score_state.specs.Given.{or}
 use Rattle.inspect.specs.Presence.{given}
 use Rattle.closest_laws.specs.Loops.{Kept, from, range, first_two, each, offer, scan, nearer}
@@ -35,30 +36,7 @@ offer_by {K} {A} {B} less f t b r e = ap (λ (k : Kept K A). read_by f k) e ∙ 
     go true = refl
     go false = refl
 
--- by whole distances, where nothing may be found yet
-pub near-fresh : (f : Bool) (d e : ℕ) → not f ≡ true → nearer (some d) (given f e) ≡ true
-unfolding nearer
-near-fresh true d e h = absurd (false≢true h)
-near-fresh false d e h = refl
-
-pub near_less : (f : Bool) (d e : ℕ) → not f ≡ false → ltb d e ≡ true → nearer (some d) (given f e) ≡ true
-unfolding nearer
-near_less true d e h l = l
-near_less false d e h l = refl
-
-pub near_kept : {A : Type 0} (f : Bool) (t : A) (d e : ℕ) (u : A) → not f ≡ false → ltb d e ≡ false
-    → record { dist = some e; result = u } ≡ offer nearer (record { dist = some d; result = t }) (record { dist = given f e; result = u })
-unfolding nearer offer
-near_kept true t d e u h l = ap (λ (x : Bool). cond x (record { dist = some d; result = t }) (record { dist = some e; result = u })) (sym l)
-near_kept false t d e u h l = absurd (true≢false h)
-
--- ---- a loop from k to hi, whose test is that hi is not less than k
-pub stays : (t : Bool) (k hi : ℕ) → t ≡ ltb hi k → not t ≡ true → k ≤ hi
-stays t k hi e n = ltb-false hi k (sym e ∙ not-true t n)
-
-pub leaves : (t : Bool) (k hi : ℕ) → t ≡ ltb hi k → not t ≡ false → hi < k
-leaves t k hi e n = ltb-true hi k (sym e ∙ not-false t n)
-
+-- ---- a loop over lo..=hi, which is at k
 module _ {K A : Type 0} (less : K → K → Bool) (f : ℕ → List (Kept K A)) where
   loop_step
       : (k hi : ℕ) (b : Kept K A) → k ≤ hi
@@ -70,17 +48,34 @@ module _ {K A : Type 0} (less : K → K → Bool) (f : ℕ → List (Kept K A)) 
       ∙ scan-append less (f k) (each (from (suc k) (suc hi - (k + 1))) f) b
       ∙ ap (λ (n : ℕ). scan less (each (from n (suc hi - (k + 1))) f) (scan less (f k) b)) (sym (add-one k))
 
-  -- a turn keeps what the whole loop comes to, and the end has reached it
+  -- a turn keeps what the whole loop comes to
   pub loop_turn
-      : (k hi n : ℕ) (b d z : Kept K A) → k ≤ hi → n ≡ k + 1 → d ≡ scan less (f k) b
-      → scan less (each (range k hi) f) b ≡ z → scan less (each (range n hi) f) d ≡ z
-  loop_turn k hi n b d z h en ed e = rw (en, ed) (sym (loop_step k hi b h) ∙ e)
+      : (k hi : ℕ) (b d z : Kept K A) → k ≤ hi → d ≡ scan less (f k) b
+      → scan less (each (range k hi) f) b ≡ z → scan less (each (range (k + 1) hi) f) d ≡ z
+  loop_turn k hi b d z h ed e = rw ed (sym (loop_step k hi b h) ∙ e)
 
-  pub loop_done : (k hi : ℕ) (b z : Kept K A) → hi < k → scan less (each (range k hi) f) b ≡ z → b ≡ z
+  -- it is reached where the loop has no value, and else with the last
+  pub loop_none : (k hi : ℕ) (b z : Kept K A) → hi < k → scan less (each (range k hi) f) b ≡ z → b ≡ z
   unfolding range from each scan
-  loop_done k hi b z h e =
+  loop_none k hi b z h e =
       let n : suc hi - k ≡ zero = omega arith in
       sym (ap (λ (n : ℕ). scan less (each (from k n) f) b) n) ∙ e
+
+  pub loop_last : (k hi : ℕ) (b d z : Kept K A) → k ≤ hi → hi ≤ k → d ≡ scan less (f k) b → scan less (each (range k hi) f) b ≡ z → d ≡ z
+  loop_last k hi b d z h l ed e = loop_none (k + 1) hi d z (omega arith) (loop_turn k hi b d z h ed e)
+
+-- ---- a loop over the items xs, which is at the place i
+module _ {A K B : Type 0} (less : K → K → Bool) (f : A → List (Kept K B)) (xs : List A) (i : ℕ) where
+  pub each_turn
+      : (x : A) (b d z : Kept K B) → i < length xs → d ≡ scan less (f (get_or xs i x)) b
+      → scan less (each (drop i xs) f) b ≡ z → scan less (each (drop (i + 1) xs) f) d ≡ z
+  unfolding each
+  each_turn x b d z h ed e =
+      rw ed (sym (ap (λ (ys : List A). scan less (each ys f) b) (drop_more xs i x h) ∙ scan-append less (f (get_or xs i x)) (each (drop (i + 1) xs) f) b) ∙ e)
+
+  pub each_done : (b z : Kept K B) → length xs ≤ i → scan less (each (drop i xs) f) b ≡ z → b ≡ z
+  unfolding each scan
+  each_done b z h e = sym (ap (λ (ys : List A). scan less (each ys f) b) (drop_of_length-le xs h)) ∙ e
 
 -- ---- all of the last three missing
 pub all-is
@@ -91,29 +86,24 @@ unfolding plain_optimize_last_three
 all-is r A T lo hi b e eb = ap (λ (x : Kept (Option ℕ) Last). x.result) eb ∙ rw e
 
 -- ---- the ends of the loops
-pub values_one : (h : Bool) (n room lo hi m : ℕ) → h ≡ true → m ≡ min n room → range m m ≡ values first_two (given h n) room lo hi
+pub values_one : (n room lo hi m : ℕ) → m ≡ min n room → range m m ≡ values first_two (some n) room lo hi
 unfolding values range from
-values_one h n room lo hi m e em =
+values_one n room lo hi m em =
     let z : suc m - m ≡ suc zero = omega arith in
-    ap (λ (k : ℕ). from m k) z ∙ rw (em, e)
+    ap (λ (k : ℕ). from m k) z ∙ rw em
 
 pub two_values : {lo hi l t u : ℕ} → l ≡ lo → t ≡ hi → u ≡ min t (l + 1) → range l u ≡ first_two lo hi
 unfolding first_two
 two_values {lo} {hi} {l} el et eu = rw (eu, add-one l, et, el)
 
 pub values_two
-    : (h : Bool) (n room lo hi l t u : ℕ) → h ≡ false → l ≡ min room lo → t ≡ min room hi → u ≡ min t (l + 1)
-    → range l u ≡ values first_two (given h n) room lo hi
+    : (room lo hi l t u : ℕ) → l ≡ min room lo → t ≡ min room hi → u ≡ min t (l + 1)
+    → range l u ≡ values first_two none room lo hi
 unfolding values
-values_two h n room lo hi l t u e el et eu = rw e (two_values el et eu)
+values_two room lo hi l t u el et eu = two_values el et eu
 
--- `unwrap_or` of a count that is 0 where it is missing
-pub or-given : (h : Bool) (n d : ℕ) → h ≡ true → or (given h n) d ≡ n
+-- `unwrap_or` of a count
+pub or_given : (h : Bool) (n d : ℕ) → or (given h n) d ≡ cond h n d
 unfolding or
-or-given true n d e = refl
-or-given false n d e = absurd (false≢true e)
-
-pub or-missing : (h : Bool) (n d : ℕ) → h ≡ false → or (given h n) d ≡ d
-unfolding or
-or-missing true n d e = absurd (true≢false e)
-or-missing false n d e = refl
+or_given true n d = refl
+or_given false n d = refl

@@ -1,4 +1,4 @@
--- What the output of a direct call tells, and that no refusal there has the number 0. Assumes nothing.
+-- What the output of a direct call tells. Assumes nothing.
 use mathlib.Core.Path.{◌≡◌, refl, ap, ◌∙◌}
 use mathlib.Core.Bool.{Bool}
 use mathlib.Core.List.{List}
@@ -8,13 +8,6 @@ use borrow.Author.Tests.{ne_eqb}
 use lib.ListN.{length, drop, take}
 use lib.Seq.{sets, sets-eq, take_at}
 use Rattle.score_state.specs.Answer.{refused, worked, unless, answer_in}
-use Rattle.inspect.specs.declared.Query.{Query}
-use Rattle.generate_laws.specs.Generate.{scored_answer}
-use Rattle.generate_laws.proofs.Refusals.{numbered}
-use Rattle.generated.specs.Generated.{generated_of}
-use Rattle.generated.specs.declared.Generated.{Generated}
-use Rattle.generated.specs.declared.Generated.TheVariants.{Counts, Refused}
-use Rattle.direct.specs.Direct.{Numbered}
 
 -- the answer that stands in the output
 pub told-refused : (n : ℕ) (vs : List ℕ) → 0 < n → answer_in n vs ≡ refused n
@@ -24,8 +17,3 @@ pub told-worked : (vs out : List ℕ) → length vs ≤ length out → answer_in
 told-worked vs out h =
     let room : 0 + length vs ≤ length out = omega arith in
     ap worked (ap (take (length vs)) (sets-eq vs out 0 room) ∙ take_at vs (drop (0 + length vs) out) (length vs) refl)
-
--- what a query is answered has no refusal by 0
-pub answer-numbered : (ws : List ℕ) (q : Query) (g : Generated) → generated_of g ≡ scored_answer ws q → Numbered g
-answer-numbered ws q (Counts c tried left) e = tt
-answer-numbered ws q (Refused n) e = numbered ws q n e

@@ -1,7 +1,7 @@
 -- Document 01, Where a row or sheet stops: "A direct call, which takes method and priority as numbers, refuses by 7, 8, 10 to 14 with
 -- no counts." Document 02, L2, of the holds passed: "a direct call takes it as one more optional number"; L4: "A direct call keeps the
 -- standard weights", where a sheet's rows may have own ones.
-use Rattle.std.specs.Prelude.{ℕ, ◌%◌, ◌<◌, Bool, cond, List, [], ◌∷◌, ltb, eqb, get_or, Float}
+use Rattle.std.specs.Prelude.{ℕ, ◌%◌, Bool, cond, List, [], ◌∷◌, ltb, eqb, get_or, Float}
 use Rattle.score_state.specs.declared.HitResults.{HitResults}
 use Rattle.score_state.specs.Points.{standard}
 use Rattle.weighting.specs.declared.Scoring.{Scoring}
@@ -9,13 +9,6 @@ use Rattle.weighting.specs.declared.Scoring.TheVariants.{Standard, Own}
 use Rattle.inspect.specs.Presence.{has}
 use Rattle.inspect.specs.Inspect.{acc_by, holds_by}
 use Rattle.inspect.specs.declared.Query.{Query}
-use Rattle.generated.specs.declared.Generated.{Generated}
-use Rattle.generated.specs.declared.Generated.TheVariants.{Counts, Refused}
-
--- what `hand` asks of an answer: no refusal has the number 0 (`numbered` in generate_laws shows it of every query)
-abbrev pub Numbered : Generated → Type 0
-Numbered (Counts c tried left) = Unit {0}
-Numbered (Refused n) = 0 < n
 
 -- ---- How a row hands over its sheet's weights: no argument more than the direct call has.
 

@@ -2,7 +2,7 @@
 #![tactic(auto)]
 
 ghost use Rattle.std.specs.Prelude.{◌≡◌, ◌≤◌, cond, ltb, length, take};
-ghost use Rattle.score_state.specs.Answer.{answer_in};
+ghost use Rattle.score_state.specs.Answer.{answer_in, answer_of, status_of};
 ghost use Rattle.score_state.specs.Lent.{six_counts, lent, handed};
 ghost use Rattle.score_state.specs.Points.{standard, weights_of};
 ghost use Rattle.inspect.specs.Inspect.{acc_by};
@@ -10,10 +10,11 @@ ghost use Rattle.inspect.specs.Presence.{has};
 ghost use Rattle.nearest_laws.specs.Nearest.{Weighting};
 ghost use Rattle.generate_laws.specs.Generate.{scored_answer, generate_answer};
 ghost use Rattle.generated.specs.Generated.{generated_of};
-ghost use Rattle.direct.specs.Direct.{Numbered, kind_by, numbers_by, classic_in, weights_in, query_by};
+ghost use Rattle.direct.specs.Direct.{kind_by, numbers_by, classic_in, weights_in, query_by};
 
 use generated::Generated;
 use inspect::{Accuracy, Chart, Query};
+use refusals::Refusal;
 use score_state::Weights;
 use weighting::Scoring;
 
@@ -25,26 +26,21 @@ fn acc_of(presence: u8, acc: f64) -> Accuracy
 }
 
 // An answer's values to the output, which has room for them.
-fn hand(g: Generated, out: &mut [u32]) -> u32
-    requires fact_1 { Numbered g }
-    requires fact_2 { 8 ≤ length out.old }
-    ensures out_after { lent result out.new ≡ handed 8 (generated_of g) out.old }
-    ensures out_after_2 { answer_in result (take 8 out.new) ≡ generated_of g }
+fn hand(answer: Result<Generated, Refusal>, out: &mut [u32]) -> Result<(), Refusal>
+    requires { 8 ≤ length out.old }
+    ensures out_after { lent (status_of (answer_of result)) out.new ≡ handed 8 (generated_of answer) out.old }
+    ensures out_after_2 { answer_in (status_of (answer_of result)) (take 8 out.new) ≡ generated_of answer }
 {
-    match g {
-        Generated::Counts(counts, tried, left) => {
-            out[0] = counts.n320;
-            out[1] = counts.n300;
-            out[2] = counts.n200;
-            out[3] = counts.n100;
-            out[4] = counts.n50;
-            out[5] = counts.misses;
-            out[6] = tried;
-            out[7] = points_left::bits_of(left);
-            0
-        }
-        Generated::Refused(n) => n,
-    }
+    let g = answer?;
+    out[0] = g.counts.n320;
+    out[1] = g.counts.n300;
+    out[2] = g.counts.n200;
+    out[3] = g.counts.n100;
+    out[4] = g.counts.n50;
+    out[5] = g.counts.misses;
+    out[6] = g.tried;
+    out[7] = points_left::bits_of(g.left);
+    Ok(())
 }
 
 // How a row hands over its sheet's weights: with its classic flag in one number, and in front of the numbers where its answer will
@@ -78,7 +74,7 @@ fn weights_of(kind: u8, own: Weights) -> Weights
     own
 }
 
-// 0 with the five counts, misses, tried and the bits of left in out, or the number that refuses: 5 where out has no room for them. kind
+// The five counts, misses, tried and the bits of left in out, or what refuses: 5 where out has no room for them. kind
 // tells the classic flag and the weights (`kind_of`); own weights stand in out on entry, where the counts will stand.
 pub fn scored(
     objects: u32,
@@ -98,13 +94,13 @@ pub fn scored(
     holds_passed: u32,
     acc: f64,
     out: &mut [u32],
-) -> u32
+) -> Result<(), Refusal>
     requires { Weighting (weights_in kind out.old) }
-    ensures out_after { lent result out.new ≡ handed 8 (scored_answer (weights_in kind out.old) (query_by objects holds method priority (classic_in kind) presence (six_counts n320 n300 n200 n100 n50 misses) passed holds_given holds_passed acc)) out.old }
-    ensures out_after_2 { 8 ≤ length out.old → answer_in result (take 8 out.new) ≡ scored_answer (weights_in kind out.old) (query_by objects holds method priority (classic_in kind) presence (six_counts n320 n300 n200 n100 n50 misses) passed holds_given holds_passed acc) }
+    ensures out_after { lent (status_of (answer_of result)) out.new ≡ handed 8 (scored_answer (weights_in kind out.old) (query_by objects holds method priority (classic_in kind) presence (six_counts n320 n300 n200 n100 n50 misses) passed holds_given holds_passed acc)) out.old }
+    ensures out_after_2 { 8 ≤ length out.old → answer_in (status_of (answer_of result)) (take 8 out.new) ≡ scored_answer (weights_in kind out.old) (query_by objects holds method priority (classic_in kind) presence (six_counts n320 n300 n200 n100 n50 misses) passed holds_given holds_passed acc) }
 {
     if out.len() < 8 {
-        return 5;
+        return Err(Refusal::Short);
     }
     let own = Weights {
         n320: out[0],
@@ -160,7 +156,7 @@ pub fn generate(
 ) -> u32
     ensures { lent result out.new ≡ handed 8 (generate_answer (query_by objects holds method priority classic presence (six_counts n320 n300 n200 n100 n50 misses) passed holds_given holds_passed acc)) out.old }
 {
-    scored(
+    match scored(
         objects,
         holds,
         method,
@@ -178,5 +174,8 @@ pub fn generate(
         holds_passed,
         acc,
         out,
-    )
+    ) {
+        Ok(()) => 0,
+        Err(refusal) => refusal.into(),
+    }
 }

@@ -1,12 +1,12 @@
--- One lemma for each answer of the code's proofs, over what its calls ensure, in their order. Assumes nothing.
+-- What the code's proofs cite, over what its calls ensure. Assumes nothing.
 use mathlib.Core.Path.{◌≡◌, refl, sym, ap, ◌∙◌}
-use mathlib.Core.Bool.{Bool, true, false, cond, not}
+use mathlib.Core.Bool.{Bool, true, false}
 use mathlib.Core.List.{[], ◌∷◌}
 use mathlib.Core.Logic.{⊎_elim}
 use mathlib.Core.Option.{Option, none, some}
-use Prim.Native.Nat.{ℕ, ◌+◌, ◌-◌, ◌*◌, ◌≤◌, ◌<◌, min}
+use Prim.Native.Nat.{ℕ, ◌+◌, ◌-◌, ◌≤◌, ◌<◌, min}
 use native.Mathlib.Omega.{arith}
-use borrow.Author.Tests.{eq-eqb, ne_eqb, lt-ltb, le-ltb, not-true, not-false}
+use borrow.Author.Tests.{eq-eqb, ne_eqb, lt-ltb, le-ltb}
 use types.Run.{OneOf}
 use denote.Enum.Declared.{tag_of}
 use lib.Dec.{eqb}
@@ -14,7 +14,9 @@ use lib.Ieee.{Float}
 use Rattle.score_state.specs.declared.HitResults.{HitResults}
 use Rattle.score_state.specs.Points as Points
 use Rattle.score_state.specs.Points.{perfect_weight, standard, points, hits, counts_of}
-use Rattle.score_state.specs.Given.{or}
+use Rattle.score_state.specs.Given.{or, option_of}
+use Rattle.std.specs.Prelude.{Some, None, unwrap_or}
+use Rattle.std.specs.declared.option.Option as Code
 use Rattle.inspect.specs.declared.Missing.{Missing}
 use Rattle.inspect.specs.declared.Missing.TheVariants.{Nothing, One, Two, ThreePlus}
 use Rattle.inspect.specs.declared.Query.{Query}
@@ -24,67 +26,22 @@ use Rattle.inspect.proofs.Lacking.{is_nothing, is_one, is_two, is_three_plus}
 use Rattle.inspect.specs.contracts.Missing.{the_type}
 use Rattle.fast.specs.declared.Partial.{Partial}
 use Rattle.fast.specs.declared.Running.{Running}
-use Rattle.fast.specs.Fast.{if_none, Prelim, clamped, prelim, provided, num_provided, all_provided, used, one_missing, numerator, target_total, delta_of, upgrade, upgrades, left_place, plus_left, add_left, three_or_fewer, provide, with_acc, by_acc, fast}
+use Rattle.fast.specs.Fast.{prelim, provided, num_provided, all_provided, one_missing, upgrade, upgrades, left_place, plus_left, add_left, three_or_fewer, provide, with_acc, by_acc, fast}
 use Rattle.fast.specs.Code.{prelim_of, remain_of, total_of, upgraded_of}
 
--- ---- a bit that was tested
-pub absent : {b h : Bool} → b ≡ h → b ≡ false → h ≡ false
-absent e t = sym e ∙ t
-
-pub present : {b h : Bool} → b ≡ h → b ≡ true → h ≡ true
-present e t = sym e ∙ t
-
--- ---- the counts before the greedy filling
-pub clamped-is : (h : Bool) (n room : ℕ) {x r : ℕ} → x ≡ cond h n 0 → r ≡ min x room → (r ≡ clamped (given h n) room) × (r ≤ room)
-unfolding clamped
-clamped-is true n room e m = (omega arith, omega arith)
-clamped-is false n room e m = (omega arith, omega arith)
-
-abbrev Clamped : Option ℕ → ℕ → ℕ → Type 0
-Clamped n room x = (x ≡ clamped n room) × (x ≤ room)
-
-pub prelim-is
-    : (i : Inspect) (R : ℕ) {x1 x2 x3 x4 x5 a1 a2 a3 a4 a5 : ℕ} → Clamped i.n320 R x1 → a1 ≡ R - x1 → Clamped i.n300 a1 x2 → a2 ≡ a1 - x2
-    → Clamped i.n200 a2 x3 → a3 ≡ a2 - x3 → Clamped i.n100 a3 x4 → a4 ≡ a3 - x4 → Clamped i.n50 a4 x5 → a5 ≡ a4 - x5
-    → (◌≡◌ {A = Prelim} (record { n320 = x1; n300 = x2; n200 = x3; n100 = x4; n50 = x5 }) (prelim i R)) × (x1 + x2 + x3 + x4 + x5 + a5 ≡ R)
-unfolding prelim
-prelim-is i R e1 s1 e2 s2 e3 s3 e4 s4 e5 s5 =
-    (rw (e5.0, s4, e4.0, s3, e3.0, s2, e2.0, s1, e1.0), omega arith)
-
-pub one-is
-    : (i : Inspect) (p : Partial) {x1 x2 x3 x4 x5 : ℕ} → x1 ≡ if_none i.n320 p.left.0 p.counts.n320 → x2 ≡ if_none i.n300 p.left.0 p.counts.n300
-    → x3 ≡ if_none i.n200 p.left.0 p.counts.n200 → x4 ≡ if_none i.n100 p.left.0 p.counts.n100 → x5 ≡ if_none i.n50 p.left.0 p.counts.n50
-    → ◌≡◌ {A = HitResults}
-    (record { n320 = x1; n300 = x2; n200 = x3; n100 = x4; n50 = x5; misses = p.counts.misses })
-    (one_missing i (remain_of p) p.counts.misses (prelim_of p.counts))
-unfolding one_missing
-one-is i p e1 e2 e3 e4 e5 =
-    let l : remain_of p - used (prelim_of p.counts) ≡ p.left.0 = omega arith in
-    rw (l, e1, e2, e3, e4, e5)
-
 -- ---- the greedy filling
-pub numerator-is : (classic : Bool) (c : HitResults) → points (standard classic) (counts_of c) ≡ numerator (perfect_weight classic) (prelim_of c)
-unfolding points numerator
-numerator-is classic c = omega arith
-
-pub delta-is
-    : (acc : Float) (w t : ℕ) (p : Partial) {d n x b r : ℕ} → n ≡ numerator w (prelim_of p.counts) → d ≡ w * t → x ≡ target_total acc d n
-    → b ≡ 10 * p.left.0 → r ≡ x - b → r ≡ delta_of acc w t (remain_of p) (prelim_of p.counts)
-unfolding delta_of
-delta-is acc w t p en ed ex eb er =
-    let c = p.counts in
-    let l : remain_of p - c.n320 - c.n300 - c.n200 - c.n100 - c.n50 ≡ p.left.0 = omega arith in
-    er ∙ rw (ex, ed, en, eb, l)
-
-pub perfect_least : (classic : Bool) → 60 ≤ perfect_weight classic
-perfect_least true = omega arith
-perfect_least false = omega arith
 
 -- n50 takes what it is given, or the whole room
-rest_is : (h : Bool) (n R room x : ℕ) → room ≤ R → x ≡ if_none (given h n) room n → min room x ≡ min room (or (given h n) R)
-unfolding if_none or
-rest_is true n R room x l e = omega arith
-rest_is false n R room x l e = omega arith
+rest_is : (o : Option ℕ) (R room : ℕ) → room ≤ R → min room (or o room) ≡ min room (or o R)
+unfolding or
+rest_is (some n) R room l = refl
+rest_is none R room l = omega arith
+
+-- `unwrap_or` of the code's option
+pub or_is : (o : Code.Option ℕ) (d : ℕ) {g : Option ℕ} {x : ℕ} → option_of o ≡ g → x ≡ unwrap_or o d → x ≡ or g d
+unfolding or
+or_is (Some n) d e h = h ∙ ap (λ (z : Option ℕ). or z d) e
+or_is None d e h = h ∙ ap (λ (z : Option ℕ). or z d) e
 
 -- what four numbers leave
 four_off : (R a b c d r : ℕ) → a + b + c + d + r ≡ R → R - a - b - c - d ≡ r
@@ -95,16 +52,16 @@ abbrev Step : Option ℕ → ℕ → ℕ → ℕ → Running → Type 0
 Step n room increase delta u = (upgraded_of u ≡ upgrade n room increase delta) × (u.count.0 + u.left.0 ≡ room)
 
 pub upgrades-is
-    : (q : Query) (w delta : ℕ) (p : Partial) (u1 u2 u3 u4 : Running) {room x n l : ℕ}
-    → Step (inspect_of q).n320 (p.left.0 + p.counts.n320) (w - 10) delta u1 → Step (inspect_of q).n300 (u1.left.0 + p.counts.n300) 50 u1.delta.0 u2
-    → Step (inspect_of q).n200 (u2.left.0 + p.counts.n200) 30 u2.delta.0 u3 → Step (inspect_of q).n100 (u3.left.0 + p.counts.n100) 10 u3.delta.0 u4
-    → room ≡ u4.left.0 + p.counts.n50 → x ≡ if_none (inspect_of q).n50 room q.n50 → n ≡ min room x → l ≡ room - n
+    : (i : Inspect) (w delta : ℕ) (p : Partial) (u1 u2 u3 u4 : Running) {room x n l : ℕ}
+    → Step i.n320 (p.left.0 + p.counts.n320) (w - 10) delta u1 → Step i.n300 (u1.left.0 + p.counts.n300) 50 u1.delta.0 u2
+    → Step i.n200 (u2.left.0 + p.counts.n200) 30 u2.delta.0 u3 → Step i.n100 (u3.left.0 + p.counts.n100) 10 u3.delta.0 u4
+    → room ≡ u4.left.0 + p.counts.n50 → x ≡ or i.n50 room → n ≡ min room x → l ≡ room - n
     → (◌≡◌ {A = HitResults}
     (record { n320 = u1.count.0; n300 = u2.count.0; n200 = u3.count.0; n100 = u4.count.0; n50 = n; misses = p.counts.misses })
-    (upgrades (inspect_of q) w (remain_of p) p.counts.misses (prelim_of p.counts) delta))
+    (upgrades i w (remain_of p) p.counts.misses (prelim_of p.counts) delta))
     × (u1.count.0 + u2.count.0 + u3.count.0 + u4.count.0 + n + l ≡ remain_of p)
 unfolding upgrades
-upgrades-is q w delta p u1 u2 u3 u4 {room} {x} {n} {l} e1 e2 e3 e4 er ex en el =
+upgrades-is i w delta p u1 u2 u3 u4 {room} {x} {n} {l} e1 e2 e3 e4 er ex en el =
     let R = remain_of p in
     let c = p.counts in
     let all : u1.count.0 + u2.count.0 + u3.count.0 + u4.count.0 + n + l ≡ R = omega arith in
@@ -113,8 +70,7 @@ upgrades-is q w delta p u1 u2 u3 u4 {room} {x} {n} {l} e1 e2 e3 e4 er ex en el =
     let r3 = four_off R u1.count.0 u2.count.0 c.n100 c.n50 (u2.left.0 + c.n200) (omega arith) in
     let r4 = four_off R u1.count.0 u2.count.0 u3.count.0 c.n50 (u3.left.0 + c.n100) (omega arith) in
     let r5 = four_off R u1.count.0 u2.count.0 u3.count.0 u4.count.0 room (omega arith) in
-    let rest = rest_is (has q.presence 16) q.n50 R room x (omega arith) ex in
-    (rw (r1, ← e1.0, r2, ← e2.0, r3, ← e3.0, r4, ← e4.0, r5, en, rest), all)
+    (rw (r1, ← e1.0, r2, ← e2.0, r3, ← e3.0, r4, ← e4.0, r5, en, ex, rest_is i.n50 R room (omega arith)), all)
 
 -- ---- what is left
 pub none_left : (i : Inspect) (p : Partial) → p.left.0 ≡ 0 → p.counts ≡ add_left i (total_of p) p.counts
@@ -123,14 +79,14 @@ none_left i p z =
     let l : total_of p ≤ Points.total_hits p.counts = omega arith in
     rw (le-ltb (Points.total_hits p.counts) (total_of p) l)
 
-pub left-added
-    : (i : Inspect) (p : Partial) {place : ℕ} {x : HitResults} → (p.left.0 ≡ 0 → ⊥) → place ≡ left_place i.priority i
-    → x ≡ plus_left place p.left.0 p.counts → x ≡ add_left i (total_of p) p.counts
+pub left_added
+    : (i : Inspect) (p : Partial) {x : HitResults} → (p.left.0 ≡ 0 → ⊥)
+    → x ≡ plus_left (left_place i.priority i) p.left.0 p.counts → x ≡ add_left i (total_of p) p.counts
 unfolding add_left hits
-left-added i p z ep ex =
+left_added i p z ex =
     let l : Points.total_hits p.counts < total_of p = omega arith in
     let d : total_of p - Points.total_hits p.counts ≡ p.left.0 = omega arith in
-    ex ∙ rw (lt-ltb (Points.total_hits p.counts) (total_of p) l, d, ep)
+    ex ∙ rw (lt-ltb (Points.total_hits p.counts) (total_of p) l, d)
 
 -- ---- how many are provided: those that are not missing
 provided-lacks : (h : Bool) (n : ℕ) → provided (given h n) + lacks h ≡ 1
@@ -161,41 +117,39 @@ two_or_more Two n e o = omega (arith, is_two n e)
 two_or_more ThreePlus n e o = omega (arith, is_three_plus n e)
 
 -- ---- the whole
-pub zero_is
-    : (acc : Float) (i : Inspect) {r m : ℕ} → r ≡ remain i → eqb r 0 ≡ true → m ≡ misses i
-    → ◌≡◌ {A = HitResults} (record { n320 = 0; n300 = 0; n200 = 0; n100 = 0; n50 = 0; misses = m }) (with_acc acc i)
-unfolding with_acc
-zero_is acc i er z em = rw (← er, z, em)
-
 module _
-    (acc : Float) (q : Query) (p : Partial) {r m : ℕ} (er : r ≡ remain (inspect_of q)) (z : eqb r 0 ≡ false) (em : m ≡ misses (inspect_of q))
-    (e : (prelim_of p.counts ≡ prelim (inspect_of q) r) × (remain_of p ≡ r) × (p.counts.misses ≡ m)) where
+    (acc : Float) (q : Query) {t m r : ℕ} (et : t ≡ total_hits (inspect_of q)) (em : m ≡ misses (inspect_of q)) (es : r ≡ t - m) where
   abbrev i : Inspect
   i = inspect_of q
 
-  some_is : provide acc i ≡ with_acc acc i
-  unfolding with_acc
-  some_is = rw (← er, z)
+  remains : r ≡ remain i
+  unfolding remain
+  remains = es ∙ rw (et, em)
 
-  pub all-is : Nothing ≡ missing_of (lacking q.presence) → p.counts ≡ with_acc acc i
-  unfolding provide all_provided
-  all-is k =
-      let n : provided_of i ≡ 5 = omega (arith, provided-lacking q, is_nothing (lacking q.presence) k) in
-      rw (← some_is, eq-eqb (provided_of i) 5 n, ← er, ← em, ← e.0, ← e.2)
+  module _ (p : Partial) (z : eqb r 0 ≡ false) (e : (prelim_of p.counts ≡ prelim i r) × (remain_of p ≡ r) × (p.counts.misses ≡ m)) where
+    some_is : provide acc i ≡ with_acc acc i
+    unfolding with_acc
+    some_is = rw (← remains, z)
 
-  pub four_is : {x : HitResults} → One ≡ missing_of (lacking q.presence) → x ≡ one_missing i (remain_of p) p.counts.misses (prelim_of p.counts) → x ≡ with_acc acc i
-  unfolding provide
-  four_is k h =
-      let n : provided_of i ≡ 4 = omega (arith, provided-lacking q, is_one (lacking q.presence) k) in
-      h ∙ rw (← some_is, ne_eqb (provided_of i) 5 (λ z. omega arith), eq-eqb (provided_of i) 4 n, e.1, e.2, e.0, er, em)
+    pub all-is : Nothing ≡ missing_of (lacking q.presence) → p.counts ≡ with_acc acc i
+    unfolding provide all_provided
+    all-is k =
+        let n : provided_of i ≡ 5 = omega (arith, provided-lacking q, is_nothing (lacking q.presence) k) in
+        rw (← some_is, eq-eqb (provided_of i) 5 n, ← remains, ← em, ← e.0, ← e.2)
 
-  pub few-is
-      : {x : HitResults} (k : Missing) → k ≡ missing_of (lacking q.presence) → OneOf (2 ∷ 3 ∷ []) (tag_of the_type k)
-      → x ≡ three_or_fewer acc i (total_hits i) (remain_of p) p.counts.misses (prelim_of p.counts) → x ≡ with_acc acc i
-  unfolding provide
-  few-is k ek o h =
-      let n : provided_of i ≤ 3 = omega (arith, provided-lacking q, two_or_more k (lacking q.presence) ek o) in
-      h ∙ rw (← some_is, ne_eqb (provided_of i) 5 (λ z. omega arith), ne_eqb (provided_of i) 4 (λ z. omega arith), e.1, e.2, e.0, er, em)
+    pub four_is : {x : HitResults} → One ≡ missing_of (lacking q.presence) → x ≡ one_missing i (remain_of p) p.counts.misses (prelim_of p.counts) → x ≡ with_acc acc i
+    unfolding provide
+    four_is k h =
+        let n : provided_of i ≡ 4 = omega (arith, provided-lacking q, is_one (lacking q.presence) k) in
+        h ∙ rw (← some_is, ne_eqb (provided_of i) 5 (λ z. omega arith), eq-eqb (provided_of i) 4 n, e.1, e.2, e.0, remains, em)
+
+    pub few-is
+        : {x : HitResults} (k : Missing) → k ≡ missing_of (lacking q.presence) → OneOf (2 ∷ 3 ∷ []) (tag_of the_type k)
+        → x ≡ three_or_fewer acc i t (remain_of p) p.counts.misses (prelim_of p.counts) → x ≡ with_acc acc i
+    unfolding provide
+    few-is k ek o h =
+        let n : provided_of i ≤ 3 = omega (arith, provided-lacking q, two_or_more k (lacking q.presence) ek o) in
+        h ∙ rw (← some_is, ne_eqb (provided_of i) 5 (λ z. omega arith), ne_eqb (provided_of i) 4 (λ z. omega arith), e.1, e.2, e.0, remains, et, em)
 
 pub fast-given : (i : Inspect) (acc : Float) (x : HitResults) → i.acc ≡ some acc → x ≡ with_acc acc i → x ≡ fast i
 unfolding fast by_acc

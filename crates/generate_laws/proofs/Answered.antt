@@ -1,10 +1,10 @@
 -- `scored_by` from its parts, for the proofs of the calls. Assumes nothing.
 use Prim.Native.Nat.{ℕ, zero, suc, ◌<◌, ◌≤◌}
 use mathlib.Core.Path.{◌≡◌, refl, sym, ap, ap₂, ◌∙◌}
-use mathlib.Core.Bool.{Bool}
 use mathlib.Core.Option.{none, some}
 use native.Mathlib.Omega.{arith}
-use borrow.Author.Tests.{eq-eqb, ne_eqb}
+use borrow.Author.Tests.{ne_eqb}
+use lib.Dec.{eqb}
 use lib.Ieee.{Float}
 use lib.IntN.{ℤ, sub_ℕ}
 use mathlib.Core.List.{List, [], ◌∷◌, ◌++◌}
@@ -33,12 +33,9 @@ module _ (ws : List ℕ) where
   halted method q n e h = rw (← e, ne_eqb n 0 (λ (z : n ≡ 0). omega arith))
 
   -- none does
-  pub worked_by
-      : (method : ℕ) (q : Query) (n : ℕ) (a : Answer (List ℕ)) → n ≡ stop_of q → n ≤ 0 → a ≡ by_method ws method (inspect_of q) → a ≡ scored_by ws method q
+  pub worked_by : (method : ℕ) (q : Query) (a : Answer (List ℕ)) → 0 ≡ stop_of q → a ≡ by_method ws method (inspect_of q) → a ≡ scored_by ws method q
   unfolding scored_by
-  worked_by method q n a e h k =
-      let z : n ≡ 0 = omega arith in
-      k ∙ sym (ap (λ (b : Bool). unless b (stop_of q) (by_method ws method (inspect_of q))) (eq-eqb (stop_of q) 0 (sym e ∙ z)))
+  worked_by method q a e k = k ∙ ap (λ (n : ℕ). unless (eqb n 0) n (by_method ws method (inspect_of q))) e
 
   -- method 3, and what check 8 stops
   third : (method : ℕ) (i : Inspect) → 3 ≤ method → nearest_of ws i i.acc ≡ by_method ws method i

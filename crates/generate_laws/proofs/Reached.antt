@@ -8,7 +8,8 @@ use lib.Dec.{eqb}
 use lib.Ieee.{Float}
 use Rattle.score_state.specs.Answer.{Answer, unless}
 use Rattle.score_state.specs.Points.{standard}
-use Rattle.inspect.specs.Inspect.{HitResultPriority, BestCase, WorstCase, inspect_of, givens, shortened, total_hits, misses, remain, holds_of}
+use Rattle.score_state.specs.Given.{option_of}
+use Rattle.inspect.specs.Inspect.{HitResultPriority, BestCase, WorstCase, inspect_of, givens, shortened, total_hits, misses, remain}
 use Rattle.inspect.specs.Checks.{chart_over, count_over, stop_of}
 use Rattle.rounded_target.specs.Answers.{target_values, target_answer}
 use Rattle.inspect.proofs.Checked.{shortened-le, chart_within}
@@ -62,7 +63,7 @@ method-alike ws (suc (suc (suc n))) q = nearest-alike ws q (inspect_of q).acc
 -- ---- the checks
 stop_alike : (q : Query) → chart_over q.chart ≡ false → stop_of q ≡ stop_of (on_reached q)
 unfolding stop_of count_over
-stop_alike q e = rw (e, chart_within q.chart (reached_chart q).n_hold_notes (shortened-le (holds_of q.holds) q.chart.n_hold_notes) e)
+stop_alike q e = rw (e, chart_within q.chart (reached_chart q).n_hold_notes (shortened-le (option_of q.holds) q.chart.n_hold_notes) e)
 
 -- ---- the law, by every method and under any weights: check 7 alone is asked of the chart's own hold notes
 pub reached_scored : (ws : List ℕ) (m : ℕ) (q : Query) → chart_over q.chart ≡ false → scored_by ws m q ≡ scored_by ws m (on_reached q)

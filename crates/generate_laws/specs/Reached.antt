@@ -1,8 +1,9 @@
 -- Document 02, L2: "methods 0 to 2 equal the Rust on a chart whose n_hold_notes is that smaller number": the smaller of the holds passed
 -- and n_hold_notes.
-use Rattle.inspect.specs.Inspect.{holds_of, shortened}
+use Rattle.score_state.specs.Given.{option_of}
+use Rattle.inspect.specs.Inspect.{shortened}
 use Rattle.inspect.specs.declared.Chart.{Chart}
-use Rattle.inspect.specs.declared.Holds.TheVariants.{InFull}
+use Rattle.std.specs.Prelude.{None}
 use Rattle.inspect.specs.declared.Query.{Query}
 
 -- the chart with that number; without holds passed it is the chart itself
@@ -10,7 +11,7 @@ abbrev pub reached_chart : Query → Chart
 reached_chart q =
     record {
       n_objects = q.chart.n_objects;
-      n_hold_notes = shortened (holds_of q.holds) q.chart.n_hold_notes;
+      n_hold_notes = shortened (option_of q.holds) q.chart.n_hold_notes;
     }
 
 -- the query of that chart, its hold notes in full, and alike in all else
@@ -29,6 +30,6 @@ on_reached q =
       n50 = q.n50;
       misses = q.misses;
       passed = q.passed;
-      holds = InFull;
+      holds = None;
       acc = q.acc;
     }

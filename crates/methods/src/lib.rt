@@ -1,10 +1,8 @@
 // One query by its method: the checks that every method shares, then the generator of the method under any weights.
 #![tactic(auto)]
 
-ghost use Rattle.std.specs.Prelude.{◌≡◌, ◌<◌, T};
+ghost use Rattle.std.specs.Prelude.{◌≡◌, ◌<◌};
 ghost use Rattle.std.proofs.Math.Option.{some};
-ghost use Rattle.std.specs.Float.Ieee as Ieee;
-ghost use Rattle.rounding.specs.Round.{zero64, one64};
 ghost use Rattle.score_state.specs.Points.{weights_of};
 ghost use Rattle.inspect.specs.Inspect.{inspect_of, acc_of};
 ghost use Rattle.inspect.specs.Checks.{Domain};
@@ -14,33 +12,28 @@ ghost use Rattle.closest_f64.specs.Rust.{closest_at_f64};
 ghost use Rattle.generated.specs.Generated.{generated_of};
 ghost use Rattle.methods.specs.Code.{ignores_acc};
 
-use closest::Closest;
 use generated::Generated;
 use inspect::{Accuracy, Query};
-use nearest::{Five, Outcome};
+use nearest::Five;
+use refusals::Refusal;
+use rounding::Acc;
 use score_state::{HitResults, Weights};
 use units::Hits;
 
 // Closest at a given accuracy: the Rust's own steps by its contract.
-fn closest_counts(q: Query, acc: f64) -> Generated
-    requires domain { Domain q }
-    requires t_1 { T (Ieee.le zero64 acc) }
-    requires t_2 { T (Ieee.le acc one64) }
-    ensures { generated_of result ≡ untried (closest_at_f64 (inspect_of q) acc) }
+fn closest_counts(q: Query, acc: Acc) -> Result<Generated, Refusal>
+    requires { Domain q }
+    ensures { generated_of result ≡ untried (closest_at_f64 (inspect_of q) acc.value) }
 {
-    match closest::generate_hitresults(q, acc) {
-        Closest::Counts(counts) => Generated::Counts(counts, 0, 0),
-        Closest::Overfull => Generated::Refused(12),
-    }
+    let counts = closest::generate_hitresults(q, acc)?;
+    Ok(counts.into())
 }
 
 // Nearest at a given accuracy, under these weights; that of n320 is w.
-fn nearest_counts(q: Query, acc: f64, weights: Weights) -> Generated
+fn nearest_counts(q: Query, acc: Acc, weights: Weights) -> Result<Generated, Refusal>
     requires domain { Domain q }
-    requires t_1 { T (Ieee.le zero64 acc) }
-    requires t_2 { T (Ieee.le acc one64) }
     requires weighting { Weighting (weights_of weights) }
-    ensures { generated_of result ≡ nearest_of (weights_of weights) (inspect_of q) (some acc) }
+    ensures { generated_of result ≡ nearest_of (weights_of weights) (inspect_of q) (some acc.value) }
 {
     let total = inspect::total_hits(q);
     let missed = inspect::misses(q);
@@ -53,30 +46,29 @@ fn nearest_counts(q: Query, acc: f64, weights: Weights) -> Generated
         n100: Hits(q.n100),
         n50: Hits(q.n50),
     };
-    match nearest::nearest(weights, q.presence, given, remain, target) {
-        Outcome::Found(split) => {
-            let five = split.counts;
-            let counts = HitResults::of(
-                five.n320, five.n300, five.n200, five.n100, five.n50, missed,
-            );
-            let points = score_state::points_of(weights, counts);
-            Generated::Counts(counts, split.tried, points_left::left_of(target, points))
-        }
-        Outcome::NoSplit => Generated::Refused(14),
-    }
+    let split = nearest::nearest(weights, q.presence, given, remain, target)?;
+    let five = split.counts;
+    let counts = HitResults::of(
+        five.n320, five.n300, five.n200, five.n100, five.n50, missed,
+    );
+    let points = score_state::points_of(weights, counts);
+    Ok(Generated {
+        counts,
+        tried: split.tried,
+        left: points_left::left_of(target, points),
+    })
 }
 
-// Methods 1 to 3 at the query's accuracy.
-fn at_acc(q: Query, method: u8, acc: f64, weights: Weights) -> Generated
+// Methods 1 to 3 at the query's accuracy. The method stays a number, as a direct call takes it (document 01, Where a row or sheet stops):
+// check 8 is of that number, and comes behind check 7.
+fn at_acc(q: Query, method: u8, acc: Acc, weights: Weights) -> Result<Generated, Refusal>
     requires domain { Domain q }
-    requires t_1 { T (Ieee.le zero64 acc) }
-    requires t_2 { T (Ieee.le acc one64) }
-    requires method_nonzero { (0 < method) × ((inspect_of q).acc ≡ some acc) }
+    requires method_nonzero { (0 < method) × ((inspect_of q).acc ≡ some acc.value) }
     requires weighting { Weighting (weights_of weights) }
     ensures { generated_of result ≡ by_method (weights_of weights) method (inspect_of q) }
 {
     match method {
-        1 => Generated::Counts(fast::generate_hitresults(q, acc), 0, 0),
+        1 => Ok(fast::generate_hitresults(q, acc).into()),
         2 => closest_counts(q, acc),
         _ => nearest_counts(q, acc, weights),
     }
@@ -94,20 +86,16 @@ fn ignores_acc(method: u8, acc: Accuracy) -> bool
 
 // The checks that every method shares, then a method, whatever the query's own, under these weights, at which Nearest alone looks. Each
 // generator is called in one place: so the compiler builds them into one function, in which the query is never copied.
-pub fn scored_by(q: Query, method: u8, weights: Weights) -> Generated
+pub fn scored_by(q: Query, method: u8, weights: Weights) -> Result<Generated, Refusal>
     requires { Weighting (weights_of weights) }
     ensures { generated_of result ≡ scored_by (weights_of weights) method q }
 {
-    let stop = inspect::stop_of(q);
-    if stop > 0 {
-        return Generated::Refused(stop);
+    inspect::check(q)?;
+    if ignores_acc(method, q.acc) {
+        return Ok(ignore_acc::generate_hitresults(q).into());
     }
-    let a = q.acc;
-    if ignores_acc(method, a) {
-        return Generated::Counts(ignore_acc::generate_hitresults(q), 0, 0);
-    }
-    match a {
-        Accuracy::Given(acc) => at_acc(q, method, acc, weights),
-        Accuracy::Absent => Generated::Refused(13),
-    }
+    let Accuracy::Given(acc) = q.acc else {
+        return Err(Refusal::AccMissing);
+    };
+    at_acc(q, method, Acc { value: acc }, weights)
 }

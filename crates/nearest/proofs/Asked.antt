@@ -8,7 +8,6 @@ use Rattle.units.specs.Limits.{most32, most_weight}
 use Rattle.score_state.specs.Points.{weights_of, Light}
 use Rattle.score_state.specs.Given.{or, missing, given_hits, given_points}
 use Rattle.score_state.specs.Accuracy.{Capped}
-use Rattle.score_state.specs.declared.HitResults.{HitResults}
 use Rattle.units.specs.declared.Hits.{Hits}
 use Rattle.score_state.specs.declared.Weights.{Weights}
 use Rattle.inspect.specs.Presence.{has, givens_of, unwrap_or_zero}
@@ -16,13 +15,9 @@ use Rattle.nearest_laws.specs.Walk.{Falling}
 use Rattle.nearest_laws.proofs.Nearest.{weighting_falls}
 use Rattle.nearest_laws.proofs.Weighs.{weighting-light}
 use Rattle.plan.specs.Planned.{folded_of}
-use Rattle.nearest.specs.Outcome.{Ask}
+use Rattle.nearest.specs.Outcome.{six_of, Ask}
 use Rattle.nearest.specs.declared.Five.{Five}
 use Rattle.nearest.proofs.Known.{unwrap_or, folded_is}
-
--- five counts as those of a play without misses
-abbrev pub six_of : Five → HitResults
-six_of x = record { n320 = x.n320.0; n300 = x.n300.0; n200 = x.n200.0; n100 = x.n100.0; n50 = x.n50.0; misses = 0 }
 
 abbrev AtMost : List ℕ → Type 0
 AtMost [] = Unit {0}

@@ -25,13 +25,6 @@ use Rattle.nearest.specs.Walked.{places_of}
 use Rattle.walk.specs.declared.Best.{Best as BestCode}
 use Rattle.walk.specs.declared.Plan.{Plan}
 
--- ---- The candidates of two missing judgements or more.
-
-pub candidates_two : (n : ℕ) (p : Plan) (R g : ℕ) → 2 ≤ n → candidates_of n p R g ≡ each_n300 p (unset R g)
-candidates_two zero p R g h = absurd (omega arith)
-candidates_two (suc zero) p R g h = absurd (omega arith)
-candidates_two (suc (suc n)) p R g h = refl
-
 -- ---- What the walk asks.
 
 first-le : (us : List ℕ) → Falling (suc most_weight) us → first_of 0 us ≤ most_weight

@@ -1,13 +1,13 @@
 -- The presence number and the five numbers beside it, as the definition's optional counts.
 use Prim.Native.Nat.{ℕ, ◌+◌}
-use mathlib.Core.Bool.{Bool, true, false, cond, not}
+use mathlib.Core.Bool.{Bool, true, false, cond}
 use mathlib.Core.List.{List, [], ◌∷◌}
 use mathlib.Core.Option.{Option}
 use mathlib.Core.Path.{◌≡◌, refl, sym, ap, ◌∙◌}
-use lib.Dec.{eqb, ltb}
+use lib.Dec.{eqb}
 use native.Mathlib.Nat.{add-zero, zero-add}
 use native.Mathlib.Omega.{arith}
-use borrow.Author.Tests.{ltb-false, lt-ltb, le-ltb, eqb-true, eqb-false, ne_eqb}
+use borrow.Author.Tests.{ne_eqb}
 use Rattle.score_state.specs.Points.{hits, points, weights_of, counts_of, total_hits}
 use Rattle.score_state.specs.Given.{or, given_hits, given_points}
 use Rattle.score_state.specs.declared.HitResults.{HitResults}
@@ -35,14 +35,6 @@ five-given p g =
     given_step (has p 1) g.n320 _ _
     (given_step (has p 2) g.n300 _ _
     (given_step (has p 4) g.n200 _ _ (given_step (has p 8) g.n100 _ _ (given_step (has p 16) g.n50 0 [] given-none))))
-
--- a sum that is no more than remain is less or the same
-pub less_or_same : (g r : ℕ) → ltb r g ≡ false → ltb g r ≡ not (eqb g r)
-less_or_same g r h = go (eqb g r) refl
-  where
-    go : (b : Bool) → eqb g r ≡ b → ltb g r ≡ not b
-    go true e = le-ltb g r (omega (arith, eqb-true g r e))
-    go false e = let n = eqb-false g r e in lt-ltb g r (omega (arith, ltb-false r g h))
 
 -- ---- The numbers with 0 for a missing one.
 

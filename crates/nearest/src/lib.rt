@@ -1,11 +1,13 @@
 // Nearest (document 01; not the repository's): of all splits the one whose points lie nearest to the rounded target.
 #![tactic(auto)]
 
-ghost use Rattle.std.specs.Prelude.{◌≡◌, false, not, ◌&&◌, ◌||◌, [], ◌∷◌, eqb, ltb, suc, ◌+◌, ◌*◌, ◌<◌, ◌≤◌, ◌-◌};
+ghost use Rattle.std.specs.Prelude.{◌≡◌, false, not, ◌&&◌, ◌||◌, [], ◌∷◌, eqb, ltb, suc, ◌+◌, ◌*◌, ◌<◌, ◌≤◌, ◌-◌, Err};
 ghost use Rattle.std.proofs.Math.Option.{none};
 ghost use Rattle.units.specs.Limits.{most32, most_weight};
 ghost use Rattle.score_state.specs.Points.{weights_of};
-ghost use Rattle.score_state.specs.Given.{missing};
+ghost use Rattle.refusals.specs.declared.Refusal as Refusals;
+ghost use Rattle.refusals.specs.declared.Refusal.TheVariants.{NoSplit};
+ghost use Rattle.score_state.specs.Given.{option_of, missing};
 ghost use Rattle.inspect.specs.Presence.{has, given, givens_of, lacking};
 ghost use Rattle.nearest_laws.specs.Walk as Walk;
 ghost use Rattle.nearest_laws.specs.Nearest as Nearest;
@@ -14,9 +16,10 @@ ghost use Rattle.walk.specs.Code.{view, fresh};
 ghost use Rattle.plan.specs.Planned.{folded_of};
 ghost use Rattle.nearest.specs.Walked.{places_of, walked_of};
 ghost use Rattle.nearest.specs.Candidates.{candidates_of, Walkable};
-ghost use Rattle.nearest.specs.Outcome.{five_of, given_five, found_of, outcome_of, Ask};
+ghost use Rattle.nearest.specs.Outcome.{five_of, six_of, given_five, found_of, outcome_of, Ask};
 
 use inspect::Missing;
+use refusals::Refusal;
 use score_state::{HitResults, Weights};
 use units::{Hits, Points};
 use walk::{Best, Plan, Setting, Spread};
@@ -38,11 +41,27 @@ pub struct Split {
     pub tried: u32,
 }
 
-// What Nearest answers: a split, or that there is none.
+// A candidate of the walk with the plan that it is of.
 #[derive(Clone, Copy)]
-pub enum Outcome {
-    Found(Split),
-    NoSplit,
+struct Candidate {
+    plan: Plan,
+    spread: Spread,
+}
+
+// The counts of a play without misses.
+impl From<Five> for HitResults {
+    ghost from_gives = { λ five counts. counts ≡ six_of five };
+
+    fn from(five: Five) -> HitResults {
+        HitResults::of(
+            five.n320,
+            five.n300,
+            five.n200,
+            five.n100,
+            five.n50,
+            Hits(0),
+        )
+    }
 }
 
 // The best of the candidates: none where nothing is missing, all hits that are left where one is, or the walk's.
@@ -64,58 +83,57 @@ fn best_of(presence: u8, plan: Plan, remain_hits: Hits, points: Points) -> Best
         Missing::One => start.attempt(
             at,
             remain_hits,
-            points.plus(remain_hits.times(plan.a)).gap(plan.target),
+            (points + remain_hits * plan.a).gap(plan.target),
         ),
         Missing::Two | Missing::ThreePlus => start.each_n300(plan, at),
     }
 }
 
-// The count of a missing judgement: that of a, that of c, or the middle's.
-fn share_of(spread: Spread, plan: Plan, weight: u32, middle: Hits) -> Hits
-    ensures { result.0 ≡ place_of plan.a plan.c spread.top.0 spread.rest.0 weight none middle.0 }
-{
-    if weight == plan.a {
-        return spread.top;
+impl Candidate {
+    // The count of a missing judgement: that of a, that of c, or the middle's.
+    #[tactic(auto, unfolding(nearest_laws::specs::Places::place_of))]
+    fn share(self, weight: u32, middle: Hits) -> Hits
+        ensures { result.0 ≡ place_of self.plan.a self.plan.c self.spread.top.0 self.spread.rest.0 weight none middle.0 }
+    {
+        if weight == self.plan.a {
+            self.spread.top
+        } else if weight == self.plan.c {
+            self.spread.rest
+        } else {
+            middle
+        }
     }
-    if weight == plan.c {
-        return spread.rest;
-    }
-    middle
-}
 
-// The count at a place: the given one, or a missing one's.
-fn place_of(
-    spread: Spread,
-    plan: Plan,
-    presence: u8,
-    place: u8,
-    weight: u32,
-    count: u32,
-    middle: Hits,
-) -> Hits
-    requires { 0 < place }
-    ensures { result.0 ≡ place_of plan.a plan.c spread.top.0 spread.rest.0 weight (given (has presence place) count) middle.0 }
-{
-    let share = share_of(spread, plan, weight, middle);
-    if inspect::is_given(presence, place) {
-        Hits(count)
-    } else {
-        share
+    // The count at a place: the given one, or a missing one's.
+    #[tactic(auto, unfolding(nearest_laws::specs::Places::place_of))]
+    fn place(self, given: Option<u32>, weight: u32, middle: Hits) -> Hits
+        ensures { result.0 ≡ place_of self.plan.a self.plan.c self.spread.top.0 self.spread.rest.0 weight (option_of given) middle.0 }
+    {
+        match given {
+            Some(n) => Hits(n),
+            None => self.share(weight, middle),
+        }
     }
-}
 
-// The counts of a candidate at their places, the given ones among them.
-fn placed(x: Spread, weights: Weights, presence: u8, known: HitResults, plan: Plan) -> Five
-    ensures { five_of result ≡ places_of weights presence known plan x }
-{
-    let p = presence;
-    let none = Hits(0);
-    Five {
-        n320: place_of(x, plan, p, inspect::N320, weights.n320, known.n320, none),
-        n300: place_of(x, plan, p, inspect::N300, weights.n300, known.n300, x.n300),
-        n200: place_of(x, plan, p, inspect::N200, weights.n200, known.n200, x.n200),
-        n100: place_of(x, plan, p, inspect::N100, weights.n100, known.n100, x.n100),
-        n50: place_of(x, plan, p, inspect::N50, weights.n50, known.n50, none),
+    // The counts at their places, the given ones among them.
+    fn placed(self, weights: Weights, presence: u8, known: HitResults) -> Five
+        ensures { five_of result ≡ places_of weights presence known self.plan self.spread }
+    {
+        let p = presence;
+        let x = self.spread;
+        let none = Hits(0);
+        let n320 = inspect::given(p, inspect::N320, known.n320);
+        let n300 = inspect::given(p, inspect::N300, known.n300);
+        let n200 = inspect::given(p, inspect::N200, known.n200);
+        let n100 = inspect::given(p, inspect::N100, known.n100);
+        let n50 = inspect::given(p, inspect::N50, known.n50);
+        Five {
+            n320: self.place(n320, weights.n320, none),
+            n300: self.place(n300, weights.n300, x.n300),
+            n200: self.place(n200, weights.n200, x.n200),
+            n100: self.place(n100, weights.n100, x.n100),
+            n50: self.place(n50, weights.n50, none),
+        }
     }
 }
 
@@ -134,8 +152,9 @@ fn found(
     let plan = plan::plan_of(weights, presence, target);
     let folded = plan::folded(weights, presence);
     let best = best_of(folded, plan, remain_hits, points);
+    let spread = best.spread;
     Split {
-        counts: placed(best.spread, weights, folded, known, plan),
+        counts: Candidate { plan, spread }.placed(weights, folded, known),
         tried: best.tried,
     }
 }
@@ -160,31 +179,30 @@ pub fn all_missing(weights: Weights, remain: Hits, target: Points) -> Split
 fn no_split(presence: u8, sum: Hits, remain: Hits) -> bool
     ensures { result ≡ (ltb remain.0 sum.0 || (eqb (lacking presence) 0 && not (eqb sum.0 remain.0))) }
 {
-    if remain.less(sum) {
-        return true;
-    }
     match inspect::missing_of(presence) {
-        Missing::Nothing => sum.less(remain),
-        _ => false,
+        Missing::Nothing => sum != remain,
+        _ => remain < sum,
     }
 }
 
 // Nearest: bits N320 to N50 of presence say which of the five are given. A missing one's number is not looked at, nor are higher
-// bits of presence.
-pub fn nearest(weights: Weights, presence: u8, given: Five, remain: Hits, target: Points) -> Outcome
+// bits of presence. Refused where there is no split.
+pub fn nearest(
+    weights: Weights,
+    presence: u8,
+    given: Five,
+    remain: Hits,
+    target: Points,
+) -> Result<Split, Refusal>
     requires { Ask weights presence given remain }
-    ensures { outcome_of result ≡ Nearest.nearest (weights_of weights) (given_five presence given) target.0 remain.0 }
+    ensures outcome { outcome_of result ≡ Nearest.nearest (weights_of weights) (given_five presence given) target.0 remain.0 }
+    ensures refusal { (r : Refusals.Refusal) → result ≡ Err r → r ≡ NoSplit }
 {
-    let none = Hits(0);
-    let five = HitResults::of(
-        given.n320, given.n300, given.n200, given.n100, given.n50, none,
-    );
-    let known = inspect::unwrap_or_zero(presence, five);
+    let known = inspect::unwrap_or_zero(presence, HitResults::from(given));
     let sum = score_state::total_hits(known);
     if no_split(presence, sum, remain) {
-        return Outcome::NoSplit;
+        return Err(Refusal::NoSplit);
     }
     let points = score_state::points_of(weights, known);
-    let remain_hits = remain.minus(sum);
-    Outcome::Found(found(weights, presence, known, remain_hits, points, target))
+    Ok(found(weights, presence, known, remain - sum, points, target))
 }

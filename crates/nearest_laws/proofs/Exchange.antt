@@ -1,7 +1,7 @@
 -- The exchange behind q, for all weights a > b > c: q hits at b are worth (b - c) / g hits at a and (a - b) / g at c.
 use Prim.Native.Nat.{ℕ, zero, suc, ◌+◌, ◌-◌, ◌*◌, ◌/◌, ◌%◌, ◌<◌, ◌≤◌, ◌∣◌}
 use mathlib.Core.Path.{◌≡◌, refl, sym, ap, ap₂, ◌∙◌, subst₂}
-use lib.Dec.{eqb, eqb-suc-zero}
+use lib.Dec.{eqb-suc-zero}
 use native.Mathlib.Nat.{dvd_refl, dvd-zero, dvd-mod_iff, mod-lt, mul-div_cancel', dvd-sub, mul-add, add-mul, mul_comm, mul_assoc, mul_left_comm, eq_of_mul-eq-mul_left, mul-zero, mul-suc, zero-mul, div-add-mod', div-le_self}
 use native.Mathlib.Omega.{arith}
 use Rattle.nearest_laws.specs.Walk.{gcd_in, gcd, stride, Middle}

@@ -2,7 +2,7 @@
 use Prim.Native.Nat.{ℕ, ◌+◌, ◌-◌, ◌*◌, ◌/◌, ◌%◌, ◌<◌, ◌≤◌}
 use mathlib.Core.Path.{◌≡◌, ap}
 use mathlib.Core.List.{List}
-use native.Mathlib.Nat.{sub_self, mul-add, mul-le-mul_left, div-add-mod, mod-lt}
+use native.Mathlib.Nat.{sub_self, mul-add, div-add-mod, mod-lt}
 use native.Mathlib.Omega.{arith}
 use Rattle.units.specs.Gap.{gap}
 use Rattle.nearest_laws.specs.Walk.{lowest, trial}
@@ -78,6 +78,3 @@ module _ {a c T r p n k : ℕ} (d : Divided a c T r p n k) where
       let z : (a - c) * (r + (n - r)) ≡ (a - c) * n = ap (λ (x : ℕ). (a - c) * x) (omega arith) in
       let m = mul-add (a - c) r (n - r) in
       (omega (arith, d.quotient), omega (arith, e, z, m, whole), omega (arith, e, z, m, whole))
-
-  pub cut_fits : (m : ℕ) → m ≤ n → (a - c) * m + k ≤ T
-  cut_fits m l = omega (arith, mul-le-mul_left (a - c) l, whole)

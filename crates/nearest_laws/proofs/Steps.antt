@@ -74,9 +74,6 @@ lowest-le a c T r p = omega arith
 
 -- ---- Points that fit.
 
-pub fits_base : (a c r p M : ℕ) → c ≤ a → p + a * r ≤ M → p + c * r ≤ M
-fits_base a c r p M h l = omega (arith, mul-le-mul_right r h)
-
 pub fits-top : (a c r p M j : ℕ) → c ≤ a → p + a * r ≤ M → j ≤ r → p + (a * j + c * (r - j)) ≤ M
 fits-top a c r p M j h l le =
     let z : a * (j + (r - j)) ≡ a * r = ap (λ (z : ℕ). a * z) (omega arith) in

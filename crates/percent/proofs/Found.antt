@@ -12,8 +12,8 @@ use lib.Ieee.Bits.{of_bits-to_bits}
 use borrow.Author.Tests.{ltb-true, lt-ltb, eqb-true, eq-eqb}
 use Rattle.rounding.specs.Round.{round_even, product, zero64}
 use Rattle.words.specs.Values.{hundredth}
-use Rattle.percent.specs.declared.Percentage.TheVariants.{Has, Missing}
-use Rattle.percent.specs.Percent.{percent_at, reads, percent_with}
+use Rattle.std.specs.Prelude.{Some, None}
+use Rattle.percent.specs.Percent.{percent_at, reads, percentage, percent_with}
 use Rattle.percent.proofs.Only.{whole_is, product_is, product-from, product-below}
 
 -- n is a percentage with k digits behind the point that has these bits
@@ -68,16 +68,16 @@ module _ {bits n k : ℕ} (r : Reads bits n k) where
   pub found : T (le zero64 x) × T (lt x (fin false 1 (pos 51))) × (round_even x ≡ n)
   found = rw accuracy-is (product-from n q fine.0 fine.1 fine.2, product-below n q fine.0 fine.1 fine.2, product_is n q fine.0 fine.1 fine.2)
 
-  pub hit : percent_with bits k ≡ Has n k
+  pub hit : percent_with bits k ≡ Some (percentage n k)
   unfolding percent_with
   hit = rw (only, is_read r)
 
 -- where what is looked for is refuted
-pub miss : (bits k : ℕ) → k ≤ 12 → ((n : ℕ) → Reads bits n k → ⊥) → percent_with bits k ≡ Missing
+pub miss : (bits k : ℕ) → k ≤ 12 → ((n : ℕ) → Reads bits n k → ⊥) → percent_with bits k ≡ None
 unfolding percent_with
 miss bits k h f = go (reads bits (percent_at bits k) k) refl
   where
-    go : (b : Bool) → reads bits (percent_at bits k) k ≡ b → cond b (Has (percent_at bits k) k) Missing ≡ Missing
+    go : (b : Bool) → reads bits (percent_at bits k) k ≡ b → cond b (Some (percentage (percent_at bits k) k)) None ≡ None
     go true e = absurd (f (percent_at bits k) (reads-is bits (percent_at bits k) k h e))
     go false e = refl
 
@@ -86,20 +86,20 @@ module _ (bits k q : ℕ) (a : Float) (K : k ≤ 12) (e : q ≡ 100 * 10 ^ k) (f
   at_x : {n : ℕ} → Reads bits n k → T (le zero64 (product a q)) × T (lt (product a q) (fin false 1 (pos 51))) × (round_even (product a q) ≡ n)
   at_x r = rw (e, f) (found r)
 
-  pub not_from : le zero64 (product a q) ≡ false → percent_with bits k ≡ Missing
+  pub not_from : le zero64 (product a q) ≡ false → percent_with bits k ≡ None
   not_from h = miss bits k K (λ (n : ℕ) (r : Reads bits n k). subst T h (at_x r).0)
 
-  pub not_below : lt (product a q) (fin false 1 (pos 51)) ≡ false → percent_with bits k ≡ Missing
+  pub not_below : lt (product a q) (fin false 1 (pos 51)) ≡ false → percent_with bits k ≡ None
   not_below h = miss bits k K (λ (n : ℕ) (r : Reads bits n k). subst T h (at_x r).1)
 
   module _ (n : ℕ) (g : n ≡ round_even (product a q)) where
-    pub too_large : 10 * q ≤ n → percent_with bits k ≡ Missing
+    pub too_large : 10 * q ≤ n → percent_with bits k ≡ None
     too_large h = miss bits k K (λ (m : ℕ) (r : Reads bits m k). omega (arith, (at_x r).2, r.small))
 
-    pub other_bits : (to_bits binary64 (round binary64 false n q) ≡ bits → ⊥) → percent_with bits k ≡ Missing
+    pub other_bits : (to_bits binary64 (round binary64 false n q) ≡ bits → ⊥) → percent_with bits k ≡ None
     unfolding hundredth
     other_bits h = miss bits k K (λ (m : ℕ) (r : Reads bits m k). h (rw (e, g, (at_x r).2) r.same))
 
-    pub has_bits : n < 10 * q → to_bits binary64 (round binary64 false n q) ≡ bits → percent_with bits k ≡ Has n k
+    pub has_bits : n < 10 * q → to_bits binary64 (round binary64 false n q) ≡ bits → percent_with bits k ≡ Some (percentage n k)
     unfolding hundredth
     has_bits h t = hit record { few = K; small = omega arith; same = rw e at t }

@@ -1,23 +1,19 @@
 -- The missing weights of a presence number, place by place, and how many they are.
 use Prim.Native.Nat.{ℕ, zero, suc, ◌+◌, ◌<◌, ◌≤◌}
-use mathlib.Core.Bool.{Bool, true, false, cond, not}
+use mathlib.Core.Bool.{Bool, true, false, cond}
 use mathlib.Core.List.{List, [], ◌∷◌}
 use mathlib.Core.Option.{Option}
 use mathlib.Core.Logic.{◌⊎◌, inl, inr}
-use mathlib.Core.Path.{◌≡◌, refl, subst}
-use lib.Dec.{T}
+use mathlib.Core.Path.{◌≡◌, refl}
 use lib.ListN.{length}
 use native.Mathlib.Omega.{arith}
 use Rattle.inspect.specs.declared.Missing.TheVariants.{Nothing, One, Two, ThreePlus}
-use mir.Val.{has_key}
-use denote.Enum.Declared.{tag_of}
 use Rattle.score_state.specs.Points.{weights_of}
 use Rattle.score_state.specs.Given.{missing}
 use Rattle.score_state.specs.declared.HitResults.{HitResults}
 use Rattle.score_state.specs.declared.Weights.{Weights}
 use Rattle.inspect.specs.Presence.{given, givens_of, lacking, lacks, missing_of}
 use Rattle.inspect.specs.declared.Missing.{Missing}
-use Rattle.inspect.specs.contracts.Missing.{the_type}
 use Rattle.nearest_laws.specs.Walk.{last_of}
 use Rattle.stride_rows.specs.Strides.{first_of}
 
@@ -55,11 +51,7 @@ missing-length w p g = simp length_step refl
 
 -- ---- The arms of a match on how many are missing.
 
--- the cases but `Nothing`, and the last two
-pub some-missing : (n : ℕ) (m : Missing) → m ≡ missing_of n → (m ≡ Nothing → ⊥) → 1 ≤ n
-some-missing zero m e o = absurd (o e)
-some-missing (suc n) m e o = omega arith
-
+-- the last two cases
 pub two_missing : (n : ℕ) (m : Missing) → m ≡ missing_of n → m ≡ Two ⊎ m ≡ ThreePlus → 2 ≤ n
 two_missing zero m e o = absurd (none m e o)
   where

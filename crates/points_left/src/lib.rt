@@ -15,24 +15,16 @@ pub fn left_of(target: Points, points: Points) -> i32
     (target.0 as i32) - (points.0 as i32)
 }
 
-// The bits of an i32, as a u32. A cast of a number below zero is not covered, so it is counted from the top.
+// The bits of an i32, as a u32.
 pub fn bits_of(left: i32) -> u32
     ensures { result ≡ bits_of left }
 {
-    if left < 0 {
-        0xffff_ffff - ((-1 - left) as u32)
-    } else {
-        left as u32
-    }
+    left.cast_unsigned()
 }
 
 // The i32 that has these bits.
 pub fn signed_of(bits: u32) -> i32
     ensures { (result ≡ signed_of bits) × (bits_of result ≡ bits) }
 {
-    if bits < 0x8000_0000 {
-        bits as i32
-    } else {
-        -1 - ((0xffff_ffff - bits) as i32)
-    }
+    bits.cast_signed()
 }

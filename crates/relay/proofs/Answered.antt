@@ -4,7 +4,7 @@ use Prim.Native.Nat.{ℕ, suc, ◌+◌, ◌<◌}
 use mathlib.Core.Bool.{Bool, false}
 use mathlib.Core.List.{List, [], ◌∷◌, ◌++◌, map}
 use mathlib.Core.Option.{Option, none, some}
-use mathlib.Core.Path.{◌≡◌, ◌∙◌}
+use mathlib.Core.Path.{◌≡◌, sym, ◌∙◌}
 use native.Mathlib.Omega.{arith}
 use lib.Dec.{eqb}
 use lib.Ieee.{Float}
@@ -19,7 +19,12 @@ use Rattle.relay_laws.specs.Plays.{Play, plays_of, total_of, misses_of}
 use Rattle.relay_laws.specs.Pool.{all_missing, pooled, deals}
 use Rattle.relay_laws.specs.Checks.{relay_stop}
 use Rattle.relay_laws.specs.Relay.{remains, pooled_target, pooled_split, sixes, relay_numbers, relay_answer, IsRelay}
+use Rattle.relay_laws.proofs.Checked.{Passed, passed}
 use Rattle.relay_laws.proofs.ReadBack.{is_relay}
+
+-- what a relay has that no check stops
+pub cleared : {acc : Option Float} {s : List ℕ} {room : ℕ} → 0 ≡ relay_stop acc s room → Passed acc s room
+cleared {acc = acc} {s = s} {room = room} e = passed acc s room (sym e)
 
 module _ (classic : Bool) (acc : Option Float) (s out : List ℕ) where
   pub stopped : (n : ℕ) → n ≡ relay_stop acc s (length out) → 0 < n → lent n out ≡ answered (relay_answer classic acc s (length out)) out

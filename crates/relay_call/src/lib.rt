@@ -12,5 +12,8 @@ pub fn relay(classic: bool, acc_given: bool, acc: f64, plays: &[u32], out: &mut 
     ensures equation { lent result out.new ≡ answered (relay_answer classic (acc_of (acc_by acc_given acc)) plays.now (length out.old)) out.old }
     ensures relayed { result ≡ 0 → IsRelay classic (acc_of (acc_by acc_given acc)) plays.now out.new }
 {
-    relay::relay(classic, inspect::acc_by(acc_given, acc), plays, out)
+    match relay::relay(classic, inspect::acc_by(acc_given, acc), plays, out) {
+        Ok(()) => 0,
+        Err(refusal) => refusal.into(),
+    }
 }

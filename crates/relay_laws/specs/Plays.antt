@@ -4,7 +4,7 @@ use Rattle.std.specs.Prelude.{ℕ, ◌+◌, ◌*◌, ◌/◌, Bool, List, length
 use Rattle.inspect.specs.Inspect.{inspect_of, total_hits, misses, remain}
 use Rattle.inspect.specs.declared.Accuracy.TheVariants.{Absent}
 use Rattle.inspect.specs.declared.Chart.{Chart}
-use Rattle.inspect.specs.declared.Holds.TheVariants.{InFull}
+use Rattle.std.specs.Prelude.{None}
 use Rattle.inspect.specs.declared.Query.{Query}
 use Rattle.relay_laws.specs.Consecutive.{consecutive}
 
@@ -45,7 +45,7 @@ play_query classic p =
       n50 = 0;
       misses = p.misses;
       passed = 0;
-      holds = InFull;
+      holds = None;
       acc = Absent;
     }
 

@@ -1,42 +1,65 @@
 // The charts of a relay as they are handed over, three numbers each (objects, holds, misses), and the checks that come before its pool.
 #![tactic(auto)]
 
-ghost use Rattle.std.specs.Prelude.{◌≡◌, ◌||◌, ◌<◌};
+ghost use Rattle.std.specs.Prelude.{◌≡◌, ◌||◌, ◌<◌, ◌≤◌};
+ghost use Rattle.score_state.specs.Answer.{status_of, answer_of};
 ghost use Rattle.inspect.specs.Inspect.{acc_of};
+ghost use Rattle.inspect.specs.Checks.{Domain};
 ghost use Rattle.relay_laws.specs.Plays.{play_at, chart_count, plays_of, play_query};
-ghost use Rattle.relay_laws.specs.Checks.{any_of, bad_count, over_chart, over_misses, relay_stop};
+ghost use Rattle.relay_laws.specs.Checks.{any_of, bad_count, over_chart, over_misses, relay_stop, Playable};
 
-use inspect::{Accuracy, Chart, Holds, Query};
+use inspect::{Accuracy, Chart, Query};
+use refusals::Refusal;
+use score_state::CAP;
 
-// The chart at place k, played to its end, as a query: its misses are given, and no other count.
-pub fn play_query(classic: bool, plays: &[u32], k: usize) -> Query
-    requires { k < chart_count plays.now }
-    ensures { result ≡ play_query classic (play_at plays.now k) }
-{
-    let at = 3 * k;
-    Query {
-        chart: Chart {
-            n_objects: plays[at],
-            n_hold_notes: plays[at + 1],
-        },
-        method: 3,
-        priority: 0,
-        classic,
-        presence: inspect::MISSES,
-        n320: 0,
-        n300: 0,
-        n200: 0,
-        n100: 0,
-        n50: 0,
-        misses: plays[at + 2],
-        passed: 0,
-        holds: Holds::InFull,
-        acc: Accuracy::Absent,
+// A relay's charts, three numbers each, as the checks leave them: at most eight charts, none of them over.
+#[derive(Clone, Copy)]
+pub struct Plays<'a> {
+    pub classic: bool,
+    pub numbers: &'a [u32],
+    ghost playable: { Playable numbers.now },
+    ghost few: { chart_count numbers.now ≤ 8 },
+}
+
+impl Plays<'_> {
+    // How many charts there are.
+    pub fn count(self) -> usize
+        ensures { result ≡ chart_count self.entry.numbers.now }
+    {
+        self.numbers.len() / 3
+    }
+
+    // The chart at place k, played to its end, as a query: its misses are given, and no other count.
+    pub fn query(self, k: usize) -> Query
+        requires { k < chart_count self.numbers.now }
+        ensures query { result ≡ play_query self.entry.classic (play_at self.entry.numbers.now k) }
+        ensures domain { Domain result }
+    {
+        let at = 3 * k;
+        Query {
+            chart: Chart {
+                n_objects: self.numbers[at],
+                n_hold_notes: self.numbers[at + 1],
+            },
+            method: 3,
+            priority: 0,
+            classic: self.classic,
+            presence: inspect::MISSES,
+            n320: 0,
+            n300: 0,
+            n200: 0,
+            n100: 0,
+            n50: 0,
+            misses: self.numbers[at + 2],
+            passed: 0,
+            holds: None,
+            acc: Accuracy::Absent,
+        }
     }
 }
 
 // Whether 7 stops one of the charts, and whether 10 does.
-#[derive(Clone, Copy)]
+#[derive(Clone, Copy, Default)]
 struct Over {
     chart: bool,
     misses: bool,
@@ -51,60 +74,50 @@ impl Over {
         let at = 3 * k;
         Over {
             chart: self.chart | inspect::chart_over(plays[at], plays[at + 1]),
-            misses: self.misses | (plays[at + 2] > 1_000_000),
+            misses: self.misses | (plays[at + 2] > CAP),
         }
     }
-}
 
-// Of all charts.
-fn over_of(plays: &[u32]) -> Over
-    ensures { (result.chart ≡ any_of over_chart (plays_of plays.now)) × (result.misses ≡ any_of over_misses (plays_of plays.now)) }
-{
-    let n = plays.len() / 3;
-    let mut over = Over {
-        chart: false,
-        misses: false,
-    };
-    let mut k: usize = 0;
-    while k < n {
-        over = over.with_chart(plays, k);
-        k += 1;
+    // Of all charts.
+    fn of(plays: &[u32]) -> Over
+        ensures { (result.chart ≡ any_of over_chart (plays_of plays.now)) × (result.misses ≡ any_of over_misses (plays_of plays.now)) }
+    {
+        let mut over = Over::default();
+        for k in 0..plays.len() / 3 {
+            over = over.with_chart(plays, k);
+        }
+        over
     }
-    over
 }
 
 // 21, of so many numbers.
+#[tactic(auto, unfolding(relay_laws::specs::Checks::bad_count))]
 fn bad_count(numbers: usize) -> bool
     ensures { result ≡ bad_count numbers }
 {
-    if numbers % 3 != 0 {
-        return true;
-    }
-    if numbers / 3 < 2 {
-        return true;
-    }
-    numbers / 3 > 8
+    numbers % 3 != 0 || numbers / 3 < 2 || numbers / 3 > 8
 }
 
-// The checks before 13 for an output of so many numbers, in order 21, 5, 7, 10, 11: the first that stops the relay, or 0.
-pub fn stop_of(acc: Accuracy, plays: &[u32], room: usize) -> u32
-    ensures { result ≡ relay_stop (acc_of acc) plays.now room }
+// The checks before 13 for an output of so many numbers, in order 21, 5, 7, 10, 11: the first that stops the relay is told.
+#[tactic(auto, unfolding(relay_laws::specs::Checks::relay_stop))]
+pub fn check(acc: Accuracy, plays: &[u32], room: usize) -> Result<(), Refusal>
+    ensures { status_of (answer_of result) ≡ relay_stop (acc_of acc) plays.now room }
 {
     if bad_count(plays.len()) {
-        return 21;
+        return Err(Refusal::RelayCount);
     }
     if room < 1 + 6 * (plays.len() / 3) {
-        return 5;
+        return Err(Refusal::Short);
     }
-    let over = over_of(plays);
+    let over = Over::of(plays);
     if over.chart {
-        return 7;
+        return Err(Refusal::ChartOver);
     }
     if over.misses {
-        return 10;
+        return Err(Refusal::CountOver);
     }
     if inspect::acc_outside(acc) {
-        return 11;
+        return Err(Refusal::AccOutside);
     }
-    0
+    Ok(())
 }

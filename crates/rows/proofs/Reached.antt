@@ -11,7 +11,7 @@ use Rattle.inspect.specs.Inspect.{shortened}
 use Rattle.inspect.specs.Checks.{chart_over}
 use Rattle.inspect.proofs.Checked.{chart_within}
 use Rattle.inspect.specs.declared.Chart.{Chart}
-use Rattle.inspect.specs.declared.Holds.TheVariants.{InFull}
+use Rattle.std.specs.Prelude.{None}
 use Rattle.weighting.specs.Scoring.{weights_by}
 use Rattle.weighting.specs.declared.Scoring.{Scoring}
 use Rattle.generate_laws.specs.Generate.{scored_answer}
@@ -22,7 +22,7 @@ use Rattle.row_checks.specs.RowChecks.{holds_left, fields_left, unknown_row, row
 use Rattle.rows.specs.Rows.{query_of, found_answer}
 use Rattle.rows.specs.Reached.{reached_of, in_full}
 
-pub row_in_full : (row : Row) (chart : Chart) → row.holds_given ≡ 0 → (query_of row chart).holds ≡ InFull
+pub row_in_full : (row : Row) (chart : Chart) → row.holds_given ≡ 0 → (query_of row chart).holds ≡ None
 unfolding query_of
 row_in_full row chart h = rw h
 

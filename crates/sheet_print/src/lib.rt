@@ -4,14 +4,25 @@
 
 ghost use Rattle.std.specs.Prelude.{◌≡◌};
 ghost use Rattle.std.specs.Bool.{OnTrue};
+ghost use Rattle.std.specs.Io.KnownBytes.{Appends};
 ghost use Rattle.streams.specs.Input.{Passes};
 ghost use Rattle.table.specs.Table.{printed_of};
 
 use std::io::{Read, Stderr, Stdin, Stdout, Write};
-use streams::Input;
 
-// The most that is read: a full sheet with own weights, 51,232 bytes, and one byte more, which shows that bytes follow the last query.
-const MOST_READ: usize = 4 + 256 * 8 + 4 + 5 * 4 + 4 + 1024 * 48 + 1;
+// Prints a sheet, and answers whether all was written.
+fn print_table<O: Write, E: Write>(sheet: &[u8], output: &mut O, errors: &mut E) -> bool
+    ensures { OnTrue result (Appends (O.contents output.old) (O.contents output.new) (printed_of sheet.now)) }
+{
+    let mut text = [0u8; table::ROOM];
+    let end = table::print_sheet(sheet, &mut text);
+    streams::write_text(
+        output,
+        errors,
+        &text[..end],
+        b"sheet: cannot write the table\n",
+    )
+}
 
 // Prints the sheet that the input gives, and answers whether all was read and written. A refused sheet is an answer, and no failure.
 pub fn print_from<R: Read, O: Write, E: Write>(
@@ -21,17 +32,12 @@ pub fn print_from<R: Read, O: Write, E: Write>(
 ) -> bool
     ensures { OnTrue result (Passes 51233 (λ sheet text. text ≡ printed_of sheet) (R.remaining input.old) (R.remaining input.new) (O.contents output.old) (O.contents output.new)) }
 {
-    let mut sheet = [0u8; MOST_READ];
-    let Input::Bytes(n) = streams::read_all(input, &mut sheet) else {
-        return streams::failed(errors, b"sheet: cannot read the sheet\n");
-    };
-    let mut text = [0u8; table::ROOM];
-    let end = table::print_sheet(&sheet[..n], &mut text);
-    streams::write_text(
+    streams::pass::<{ streams::MOST_OF_SHEET }, R, O, E, _>(
+        input,
         output,
         errors,
-        &text[..end],
-        b"sheet: cannot write the table\n",
+        b"sheet: cannot read the sheet\n",
+        print_table,
     )
 }
 

@@ -3,10 +3,9 @@
 #![tactic(auto)]
 
 fn stored(rt: &HostRuntime, name: &[u8]) {
-    let mut output = rt.stdout();
-    let mut file = stored_files::opened(rt, &mut output, name);
-    let printed = sheet_print::print_from(&mut file, &mut output, &mut rt.stderr());
-    stored_files::closed(file, &mut output, printed);
+    stored_files::print_stored(rt, name, |file, output, errors| {
+        sheet_print::print_from(file, output, errors)
+    });
 }
 
 fn main(rt: HostRuntime) {

@@ -39,5 +39,8 @@ pub fn strides(
         n100: b100,
         n50: b50,
     };
-    stride_table::fill_strides(first, second, out)
+    match stride_table::fill_strides(first, second, out) {
+        Ok(()) => 0,
+        Err(refusal) => refusal.into(),
+    }
 }

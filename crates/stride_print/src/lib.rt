@@ -4,14 +4,28 @@
 
 ghost use Rattle.std.specs.Prelude.{◌≡◌};
 ghost use Rattle.std.specs.Bool.{OnTrue};
+ghost use Rattle.std.specs.Io.KnownBytes.{Appends};
 ghost use Rattle.streams.specs.Input.{Passes};
 ghost use Rattle.stride_text.specs.StrideText.{printed_strides};
 
 use std::io::{Read, Stderr, Stdin, Stdout, Write};
-use streams::Input;
 
 // The most that is read: ten weights, 40 bytes, and one byte more, which shows that there are more.
 const MOST_READ: usize = 41;
+
+// Prints the table of these weights, and answers whether all was written.
+fn print_table<O: Write, E: Write>(weights: &[u8], output: &mut O, errors: &mut E) -> bool
+    ensures { OnTrue result (Appends (O.contents output.old) (O.contents output.new) (printed_strides weights.now)) }
+{
+    let mut text = [0u8; stride_text::ROOM];
+    let end = stride_text::print_strides(weights, &mut text);
+    streams::write_text(
+        output,
+        errors,
+        &text[..end],
+        b"strides: cannot write the table\n",
+    )
+}
 
 // Prints the table of the weights that the input gives, and answers whether all was read and written. A refusal is an answer, and no failure.
 pub fn print_from<R: Read, O: Write, E: Write>(
@@ -21,17 +35,12 @@ pub fn print_from<R: Read, O: Write, E: Write>(
 ) -> bool
     ensures { OnTrue result (Passes 41 (λ weights text. text ≡ printed_strides weights) (R.remaining input.old) (R.remaining input.new) (O.contents output.old) (O.contents output.new)) }
 {
-    let mut weights = [0u8; MOST_READ];
-    let Input::Bytes(n) = streams::read_all(input, &mut weights) else {
-        return streams::failed(errors, b"strides: cannot read the weights\n");
-    };
-    let mut text = [0u8; stride_text::ROOM];
-    let end = stride_text::print_strides(&weights[..n], &mut text);
-    streams::write_text(
+    streams::pass::<MOST_READ, R, O, E, _>(
+        input,
         output,
         errors,
-        &text[..end],
-        b"strides: cannot write the table\n",
+        b"strides: cannot read the weights\n",
+        print_table,
     )
 }
 

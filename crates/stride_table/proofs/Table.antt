@@ -1,7 +1,7 @@
 -- The table of two weightings in document 02's words: its numbers, its statuses, what stays of a buffer, and L5's table for the standard sets.
 -- Assumes nothing.
 use Prim.Native.Nat.{ℕ, ◌+◌, ◌*◌, ◌%◌, ◌<◌, ◌≤◌}
-use mathlib.Core.Path.{◌≡◌, refl, sym, ap, ap₂, ◌∙◌}
+use mathlib.Core.Path.{◌≡◌, refl, sym, ap, ◌∙◌}
 use mathlib.Core.Bool.{Bool, true, false, cond, ◌&&◌}
 use mathlib.Core.List.{List, [], ◌++◌, append-nil}
 use native.Mathlib.Omega.{arith}
@@ -13,7 +13,7 @@ use Rattle.lists.specs.Lists.{joined}
 use Rattle.lists.proofs.Joined.{length-joined, in_piece, same_pieces}
 use Rattle.score_state.specs.Points.{weights_of, standard}
 use Rattle.score_state.specs.declared.Weights.{Weights}
-use Rattle.nearest_laws.specs.Nearest.{Weighting, standard-weighting, weighs}
+use Rattle.nearest_laws.specs.Nearest.{Weighting, weighs}
 use Rattle.nearest_laws.proofs.Weighs.{weighting, weighed}
 use Rattle.stride_rows.specs.Strides.{strides_of, pattern_of, row_rule, stride_table}
 use Rattle.stride_rows.proofs.Table.{table_right}
@@ -101,32 +101,8 @@ first = record { n320 = 61; n300 = 60; n200 = 40; n100 = 20; n50 = 10 }
 second : Weights
 second = record { n320 = 60; n300 = 60; n200 = 40; n100 = 20; n50 = 10 }
 
-standard-table
-    : (ws vs out out' : List ℕ) (r : ℕ) → r ≡ table_status ws vs (length out) → out' ≡ table_out ws vs out
-    → ws ≡ standard false → vs ≡ standard true → 320 ≤ length out → (r ≡ 0) × (take 320 out' ≡ standard_table)
+pub standard-table
+    : (ws vs out : List ℕ) → ws ≡ standard false → vs ≡ standard true → take 320 (table_of ws vs ++ drop 320 out) ≡ standard_table
 unfolding first second
-standard-table ws vs out out' r er eo ew ev h =
-    let zero = filled (standard false) (standard true) (length out) (standard-weighting false) (standard-weighting true) h in
-    let t = table_of (standard false) (standard true) in (
-      er ∙ rw (ew, ev) zero,
-      ap (take 320) (eo ∙ ap₂ (λ (xs ys : List ℕ). table_out xs ys out) ew ev ∙ filled_whole (standard false) (standard true) out zero)
-          ∙ take_at t (drop 320 out) 320 (table_long first second)
-          ∙ standard-rows,
-    )
-
--- ---- the whole contract, from the status and the buffer
-module _ (ws vs out : List ℕ) where
-  abbrev pub Answered : List ℕ → ℕ → Type 0
-  Answered out' r =
-      (r ≡ table_status ws vs (length out))
-      × ((out' ≡ table_out ws vs out)
-      × (ws ≡ standard false → vs ≡ standard true → 320 ≤ length out → (r ≡ 0) × (take 320 out' ≡ standard_table)))
-
-  answered : (out' : List ℕ) (r : ℕ) → r ≡ table_status ws vs (length out) → out' ≡ table_out ws vs out → Answered out' r
-  answered out' r er eo = (er, (eo, standard-table ws vs out out' r er eo))
-
-  pub refused_by : (r : ℕ) → 0 < r → table_status ws vs (length out) ≡ r → Answered out r
-  refused_by r h e = answered out r (sym e) (sym (unchanged ws vs out (rw e h)))
-
-  pub answers_table : (out' : List ℕ) → table_status ws vs (length out) ≡ 0 → out' ≡ table_of ws vs ++ drop 320 out → Answered out' 0
-  answers_table out' e eo = answered out' 0 (sym e) (eo ∙ sym (filled_whole ws vs out e))
+standard-table ws vs out ew ev =
+    rw (ew, ev) (take_at (table_of (standard false) (standard true)) (drop 320 out) 320 (table_long first second) ∙ standard-rows)

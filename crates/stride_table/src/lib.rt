@@ -4,9 +4,11 @@
 ghost use Rattle.std.specs.Prelude.{◌≡◌, true, false, cond, ◌++◌, ◌+◌, ◌≤◌, ltb, length, take, drop};
 ghost use Rattle.lists.specs.Lists.{put};
 ghost use Rattle.score_state.specs.Points.{weights_of, standard};
+ghost use Rattle.score_state.specs.Answer.{answer_of, status_of};
 ghost use Rattle.stride_rows.specs.Strides.{row_rule};
 ghost use Rattle.stride_table.specs.StrideTable.{table_of, standard_table, table_status, table_out};
 
+use refusals::Refusal;
 use score_state::Weights;
 
 // The set of row r.
@@ -24,15 +26,12 @@ fn row_of(first: Weights, second: Weights, r: u8) -> [u32; 5]
 }
 
 // A row's five numbers in place of those that stood there.
+#[tactic(auto, unfolding(lists::specs::Lists::put))]
 fn put_row(out: &mut [u32], at: usize, row: [u32; 5])
     requires { at + 5 ≤ length out.old }
     ensures { out.new ≡ put out.old at row }
 {
-    out[at] = row[0];
-    out[at + 1] = row[1];
-    out[at + 2] = row[2];
-    out[at + 3] = row[3];
-    out[at + 4] = row[4];
+    out[at..at + 5].copy_from_slice(&row);
 }
 
 // The 64 rows, one after the other.
@@ -40,29 +39,25 @@ fn put_rows(first: Weights, second: Weights, out: &mut [u32])
     requires { 320 ≤ length out.old }
     ensures { out.new ≡ table_of (weights_of first) (weights_of second) ++ drop 320 out.old }
 {
-    let mut r: u8 = 0;
-    while r < 64 {
+    for r in 0..64 {
         put_row(out, 5 * r as usize, row_of(first, second, r));
-        r += 1;
     }
 }
 
-// Fills out with the table: the first set's rows, then the second's. It answers 0; or 18 where a set is none that a league may set, then 5
-// where out has fewer than 320 places, and leaves out as it was.
-pub fn fill_strides(first: Weights, second: Weights, out: &mut [u32]) -> u32
-    ensures status { result ≡ table_status (weights_of first) (weights_of second) (length out.old) }
+// Fills out with the table: the first set's rows, then the second's. Refused where a set is none that a league may set, then where out has
+// fewer than 320 places; out is then left as it was.
+#[tactic(auto, unfolding(crate::specs::StrideTable::table_status, crate::specs::StrideTable::table_out))]
+pub fn fill_strides(first: Weights, second: Weights, out: &mut [u32]) -> Result<(), Refusal>
+    ensures status { status_of (answer_of result) ≡ table_status (weights_of first) (weights_of second) (length out.old) }
     ensures numbers { out.new ≡ table_out (weights_of first) (weights_of second) out.old }
-    ensures standard { weights_of first ≡ standard false → weights_of second ≡ standard true → 320 ≤ length out.old → (result ≡ 0) × (take 320 out.new ≡ standard_table) }
+    ensures standard { weights_of first ≡ standard false → weights_of second ≡ standard true → 320 ≤ length out.old → (status_of (answer_of result) ≡ 0) × (take 320 out.new ≡ standard_table) }
 {
-    if !weighting::is_weighting(first) {
-        return 18;
-    }
-    if !weighting::is_weighting(second) {
-        return 18;
+    if !weighting::is_weighting(first) || !weighting::is_weighting(second) {
+        return Err(Refusal::WeightsUnfit);
     }
     if out.len() < 320 {
-        return 5;
+        return Err(Refusal::Short);
     }
     put_rows(first, second, out);
-    0
+    Ok(())
 }

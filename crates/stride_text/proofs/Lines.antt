@@ -43,8 +43,6 @@ spaced-joined l (suc k) h =
     ∙ ap (λ (n : ℕ). spaced (take (n + 1) l)) (sym e)
 
 -- the first number, the others with a space before each, and the end: a line
-pub line_made : (l : List ℕ) (k : ℕ) → 1 ≤ k → k ≡ length l → decimal_text (get_or l 0 0) ++ joined (more l) (k - 1) ++ (10 ∷ []) ≡ line_text l
+pub line_made : (l : List ℕ) (k : ℕ) → k + 1 ≡ length l → decimal_text (get_or l 0 0) ++ joined (more l) k ++ (10 ∷ []) ≡ line_text l
 unfolding line_text
-line_made l k h e =
-    let n : k - 1 + 1 ≡ length l = omega arith in
-    ap (λ (t : List ℕ). t ++ (10 ∷ [])) (spaced-joined l (k - 1) (omega arith) ∙ ap (λ (m : ℕ). spaced (take m l)) n ∙ ap spaced (take-length l))
+line_made l k e = ap (λ (t : List ℕ). t ++ (10 ∷ [])) (spaced-joined l k (omega arith) ∙ ap (λ (m : ℕ). spaced (take m l)) e ∙ ap spaced (take-length l))

@@ -1,46 +1,44 @@
-// The closing line of a sheet's table, appended to a lent buffer: `total` and the seven numbers.
+// The closing line of a sheet's table: `total` and the seven numbers.
 #![tactic(auto)]
 
-ghost use Rattle.std.specs.Prelude.{◌∷◌, ◌+◌, ◌≤◌, length};
+ghost use Rattle.std.specs.Prelude.{◌∷◌, ◌+◌, ◌≤◌};
 ghost use Rattle.lists.specs.Lists.{joined};
-ghost use Rattle.text.specs.Text.{decimal_text, Appended};
+ghost use Rattle.text.specs.Text.{decimal_text};
+ghost use Rattle.text.specs.Written.{HasRoom, Gained};
 ghost use Rattle.totals.specs.Totals.{seven_of};
 ghost use Rattle.total_text.specs.TotalText.{sum_text, total_text};
 
+use text::Text;
 use totals::Totals;
 
 // A space and a number of 64 bits, which has at most 20 digits.
-fn put_sum(text: &mut [u8], at: usize, n: u64) -> usize
-    requires { at + 21 ≤ length text.old }
-    ensures appended { Appended text.old at text.new result (32 ∷ decimal_text n) }
-    ensures upper_bound { result ≤ at + 21 }
+fn put_sum(text: &mut Text<'_>, n: u64)
+    requires { HasRoom text.old 21 }
+    ensures gained { Gained text.old text.new (32 ∷ decimal_text n) }
+    ensures upper_bound { text.new.len ≤ text.old.len + 21 }
 {
-    let next = text::put_byte(text, at, b' ');
-    text::put_number(text, next, n)
+    text.put_byte(b' ');
+    text.put_number(n);
 }
 
 // The seven numbers.
-fn put_sums(text: &mut [u8], at: usize, seven: [u64; 7]) -> usize
-    requires { at + 147 ≤ length text.old }
-    ensures appended { Appended text.old at text.new result (joined (sum_text seven) 7) }
-    ensures upper_bound { result ≤ at + 147 }
+fn put_sums(text: &mut Text<'_>, seven: &[u64; 7])
+    requires { HasRoom text.old 147 }
+    ensures gained { Gained text.old text.new (joined (sum_text seven.now) 7) }
+    ensures upper_bound { text.new.len ≤ text.old.len + 147 }
 {
-    let mut end = at;
-    let mut j: usize = 0;
-    while j < 7 {
-        end = put_sum(text, end, seven[j]);
-        j += 1;
+    for n in seven {
+        put_sum(text, *n);
     }
-    end
 }
 
 // The line.
-pub fn put_total(text: &mut [u8], at: usize, totals: Totals) -> usize
-    requires { at + 153 ≤ length text.old }
-    ensures appended { Appended text.old at text.new result (total_text (seven_of totals)) }
-    ensures upper_bound { result ≤ at + 153 }
+pub fn put_total(text: &mut Text<'_>, totals: Totals)
+    requires { HasRoom text.old 153 }
+    ensures gained { Gained text.old text.new (total_text (seven_of totals)) }
+    ensures upper_bound { text.new.len ≤ text.old.len + 153 }
 {
-    let word_end = text::put_bytes(text, at, b"total");
+    text.put_bytes(b"total");
     let seven = [
         totals.rows,
         totals.n320,
@@ -50,6 +48,6 @@ pub fn put_total(text: &mut [u8], at: usize, totals: Totals) -> usize
         totals.n50,
         totals.misses,
     ];
-    let sums_end = put_sums(text, word_end, seven);
-    text::put_byte(text, sums_end, b'\n')
+    put_sums(text, &seven);
+    text.put_byte(b'\n');
 }

@@ -1,7 +1,12 @@
 -- The page 'A typed sheet' of docs/RULES.md, the words that it knows: `chart`, `weights` and `play`; "METHOD being ignore, fast, closest or
 -- nearest"; "`best` or `worst` .., `classic`, and with a value `n320 n300 n200 n100 n50 misses passed holds` (holds passed) and `acc` or `accbits`".
-use Rattle.std.specs.Prelude.{List, [], ◌∷◌, cond, ℕ, ◌+◌, ltb}
-use Rattle.words.specs.Words.{among}
+use Rattle.std.specs.Prelude.{List, [], ◌∷◌, cond, ℕ, eqb, Option}
+use Rattle.std.specs.Option.{option_map}
+use Rattle.words.specs.Words.{says, place}
+use Rattle.typed_line.specs.declared.Kind.{Kind}
+use Rattle.typed_line.specs.declared.Kind.TheVariants.{Chart, Weights, Play}
+use Rattle.typed_line.specs.declared.PlayOption.{PlayOption}
+use Rattle.typed_line.specs.declared.PlayOption.TheVariants.{Valued, Best, Worst, Classic}
 
 -- each by its letters, in ASCII
 unfoldable pub chart : List ℕ
@@ -64,27 +69,34 @@ worst = 119 ∷ 111 ∷ 114 ∷ 115 ∷ 116 ∷ []
 unfoldable pub classic : List ℕ
 classic = 99 ∷ 108 ∷ 97 ∷ 115 ∷ 115 ∷ 105 ∷ 99 ∷ []
 
--- what begins a line: 1 chart, 2 weights, 3 play, 0 any other word
+-- what begins a line; none for any other word
 abbrev pub kinds : List (List ℕ)
 kinds = chart ∷ weights ∷ play ∷ []
 
-unfoldable pub kind_of : List ℕ → ℕ
-unfolding among
-kind_of w = cond (ltb (among w kinds) 3) (among w kinds + 1) 0
+-- the kind of a line by its word's place among those
+abbrev pub kind_at : ℕ → Kind
+kind_at k = cond (eqb k 0) Chart (cond (eqb k 1) Weights Play)
 
--- a method's number in a sheet: 0 ignore, 1 fast, 2 closest, 3 nearest; 4 any other word
+unfoldable pub kind_of : List ℕ → Option Kind
+unfolding says
+kind_of w = option_map kind_at (place w kinds)
+
+-- a method's number in a sheet: 0 ignore, 1 fast, 2 closest, 3 nearest; none for any other word
 abbrev pub methods : List (List ℕ)
 methods = ignore ∷ fast ∷ closest ∷ nearest ∷ []
 
-unfoldable pub method_of : List ℕ → ℕ
-unfolding among
-method_of w = among w methods
+unfoldable pub method_of : List ℕ → Option ℕ
+unfolding says
+method_of w = place w methods
 
--- A play's options. With a value, the field's number: 0 to 4 the counts from n320 to n50, 5 misses, 6 acc, 7 passed, 8 holds; 13 accbits,
--- field 6 by its bits. Without: 14 best, 15 worst, 16 classic. 17 any other word.
+-- A play's options; none for any other word. With a value, the field's number: 0 to 4 the counts from n320 to n50, 5 misses, 6 acc, 7 passed,
+-- 8 holds; 13 accbits, field 6 by its bits. Without: best, worst, classic.
 abbrev pub options : List (List ℕ)
 options = n320 ∷ n300 ∷ n200 ∷ n100 ∷ n50 ∷ misses ∷ acc ∷ passed ∷ holds ∷ accbits ∷ best ∷ worst ∷ classic ∷ []
 
-unfoldable pub option_of : List ℕ → ℕ
-unfolding among
-option_of w = cond (ltb (among w options) 9) (among w options) (among w options + 4)
+abbrev pub option_at : ℕ → PlayOption
+option_at o = cond (eqb o 9) (Valued 13) (cond (eqb o 10) Best (cond (eqb o 11) Worst (cond (eqb o 12) Classic (Valued o))))
+
+unfoldable pub option_of : List ℕ → Option PlayOption
+unfolding says
+option_of w = option_map option_at (place w options)

@@ -3,312 +3,336 @@
 
 ghost use Rattle.std.specs.Prelude.{◌≡◌, ◌+◌, ◌*◌, ◌<◌, ◌≤◌, length};
 ghost use Rattle.words.specs.Lines.{part};
-ghost use Rattle.typed_line.specs.Keywords.{kind_of, method_of, option_of};
-ghost use Rattle.typed_line.specs.Line.{fresh, noted, told, begun, awaits, stores, opens, field_of, names, value_for, slot, after, fills, judged, takes, closed, read_of, line_of};
+ghost use Rattle.typed_line.specs.Keywords.{kind_at, kind_of, method_of, option_at, option_of};
+ghost use Rattle.typed_line.specs.Line.{span, fresh, noted, told, begun, awaits, stores, opens, field_of, named, names, value_for, slot, after, fills, judged, takes, closed, read_of, line_of};
 
-use words::Value;
+use words::{Fault, Words};
+
+// A word by where it starts in the text, and how long it is.
+#[derive(Clone, Copy, PartialEq, Eq, Debug)]
+pub struct Span {
+    pub at: usize,
+    pub size: usize,
+}
+
+#[derive(Clone, Copy, PartialEq, Eq, Debug)]
+pub enum Kind {
+    Chart,
+    Weights,
+    Play,
+}
+
+// A play's option: one with a value, by its field's number, or one without.
+#[derive(Clone, Copy, PartialEq, Eq, Debug)]
+pub enum PlayOption {
+    Valued(usize),
+    Best,
+    Worst,
+    Classic,
+}
+
+// What the next word is to be; a value by its field's number.
+#[derive(Clone, Copy, PartialEq, Eq, Debug)]
+pub enum Want {
+    FirstWord,
+    Nothing,
+    OptionName,
+    Value(usize),
+}
 
 // What is known of a line after some of its words: specs/Line.antt says of each field what it is.
 #[derive(Clone, Copy)]
 pub struct Line {
-    pub fault: u32,
-    pub at: usize,
-    pub size: usize,
-    pub first: usize,
-    pub letters: usize,
-    pub kind: u32,
-    pub want: u32,
-    pub given: [u8; 13],
-    pub values: [u64; 13],
+    pub fault: Option<Fault>,
+    pub word: Span,
+    pub first: Span,
+    pub kind: Option<Kind>,
+    pub want: Want,
+    pub fields: [Option<u64>; 13],
 }
 
-fn fresh_line() -> Line
-    ensures { result ≡ fresh }
+// A line's kind by the place of its first word among theirs.
+fn kind_at(k: usize) -> Kind
+    ensures { result ≡ kind_at k }
 {
-    Line {
-        fault: 0,
-        at: 0,
-        size: 0,
-        first: 0,
-        letters: 0,
-        kind: 0,
-        want: 0,
-        given: [0u8; 13],
-        values: [0u64; 13],
+    match k {
+        0 => Kind::Chart,
+        1 => Kind::Weights,
+        _ => Kind::Play,
     }
 }
 
-fn note(l: Line, at: usize, size: usize) -> Line
-    ensures { result ≡ noted l at size }
-{
-    let mut m = l;
-    m.at = at;
-    m.size = size;
-    m
-}
-
-fn tell(l: Line, number: u32) -> Line
-    ensures { result ≡ told l number }
-{
-    let mut m = l;
-    m.fault = number;
-    m
-}
-
-fn begin(l: Line, kind: u32, want: u32) -> Line
-    ensures { result ≡ begun l kind want }
-{
-    let mut m = l;
-    m.first = l.at;
-    m.letters = l.size;
-    m.kind = kind;
-    m.want = want;
-    m
-}
-
-fn await_next(l: Line, want: u32) -> Line
-    ensures { result ≡ awaits l want }
-{
-    let mut m = l;
-    m.want = want;
-    m
-}
-
-fn store(l: Line, f: usize, n: u64, want: u32) -> Line
-    requires { f < 13 }
-    ensures { result ≡ stores l f n want }
-{
-    let mut m = l;
-    m.given[f] = 1;
-    m.values[f] = n;
-    m.want = want;
-    m
-}
-
-fn kind_of(w: &[u8]) -> u32
+fn kind_of(w: &[u8]) -> Option<Kind>
     ensures { result ≡ kind_of w.now }
 {
-    let k = words::place_in(w, b"chart weights play");
-    if k < 3 {
-        return k + 1;
-    }
-    0
+    words::place_in(w, b"chart weights play").map(kind_at)
 }
 
-fn method_of(w: &[u8]) -> u32
+fn method_of(w: &[u8]) -> Option<usize>
     ensures { result ≡ method_of w.now }
 {
     words::place_in(w, b"ignore fast closest nearest")
 }
 
-// A play's options.
-fn option_of(w: &[u8]) -> u32
+// An option by the place of its name among theirs.
+fn option_at(o: usize) -> PlayOption
+    ensures { result ≡ option_at o }
+{
+    match o {
+        9 => PlayOption::Valued(13),
+        10 => PlayOption::Best,
+        11 => PlayOption::Worst,
+        12 => PlayOption::Classic,
+        _ => PlayOption::Valued(o),
+    }
+}
+
+fn option_of(w: &[u8]) -> Option<PlayOption>
     ensures { result ≡ option_of w.now }
 {
-    let o = words::place_in(
+    let place = words::place_in(
         w,
         b"n320 n300 n200 n100 n50 misses acc passed holds accbits best worst classic",
     );
-    if o < 9 {
-        return o;
-    }
-    o + 4
+    place.map(option_at)
 }
 
-// A line's first word.
-fn open(l: Line, kind: u32) -> Line
-    ensures { result ≡ opens l kind }
+#[tactic(auto, unfolding(crate::specs::Line::slot))]
+fn slot_of(f: usize) -> usize
+    ensures { (result ≡ slot f) × (result < 13) }
 {
-    if kind == 0 {
-        return tell(l, 1);
-    }
-    if kind == 3 {
-        return begin(l, 3, 14);
-    }
-    begin(l, kind, 3)
+    if f < 13 { f } else { 6 }
 }
 
 // The field that an option is about.
-fn field_of(option: u32) -> usize
+fn field_of(option: PlayOption) -> usize
     ensures { (result ≡ field_of option) × (result < 13) }
 {
-    if option < 13 {
-        return option as usize;
+    match option {
+        PlayOption::Valued(f) => slot_of(f),
+        PlayOption::Best => 9,
+        PlayOption::Worst => 9,
+        PlayOption::Classic => 10,
     }
-    if option < 14 {
-        return 6;
-    }
-    if option < 16 {
-        return 9;
-    }
-    10
 }
 
-// An option's name.
-fn name(l: Line, option: u32) -> Line
-    ensures { result ≡ names l option }
-{
-    if 16 < option {
-        return tell(l, 3);
-    }
-    let f = field_of(option);
-    if l.given[f] == 0 {
-        if option < 14 {
-            return await_next(l, 3 + option);
-        }
-        if option == 14 {
-            return store(l, f, 0, 2);
-        }
-        return store(l, f, 1, 2);
-    }
-    tell(l, 4)
-}
-
-fn chart_number(w: &[u8]) -> Value
+#[tactic(auto, unfolding(crate::specs::Line::value_for))]
+fn chart_number(w: &[u8]) -> Result<u64, Fault>
     ensures { result ≡ value_for 11 w.now }
 {
-    match words::number(w) {
-        Value::Is(n) => {
-            if 65535 < n {
-                Value::Bad(11)
-            } else {
-                Value::Is(n)
-            }
-        }
-        Value::Bad(r) => Value::Bad(r),
+    let n = words::number(w)?;
+    if 65535 < n {
+        return Err(Fault::ChartTooLarge);
     }
+    Ok(n)
 }
 
-fn method_value(w: &[u8]) -> Value
+#[tactic(auto, unfolding(crate::specs::Line::value_for))]
+fn method_value(w: &[u8]) -> Result<u64, Fault>
     ensures { result ≡ value_for 12 w.now }
 {
-    let m = method_of(w);
-    if 3 < m {
-        return Value::Bad(10);
-    }
-    Value::Is(m as u64)
+    let m = method_of(w).ok_or(Fault::NoMethod)?;
+    Ok(m as u64)
 }
 
 // The value of a word for a field.
-fn value_for(f: u32, w: &[u8]) -> Value
+#[tactic(auto, unfolding(crate::specs::Line::value_for))]
+fn value_for(f: usize, w: &[u8]) -> Result<u64, Fault>
     ensures { result ≡ value_for f w.now }
 {
-    if f == 6 {
-        return words::percentage(w);
+    match f {
+        6 => words::percentage(w),
+        11 => chart_number(w),
+        12 => method_value(w),
+        13 => words::hex_bits(w),
+        _ => words::number(w),
     }
-    if f == 11 {
-        return chart_number(w);
-    }
-    if f == 12 {
-        return method_value(w);
-    }
-    if f == 13 {
-        return words::hex_bits(w);
-    }
-    words::number(w)
-}
-
-fn slot_of(f: u32) -> usize
-    ensures { (result ≡ slot f) × (result < 13) }
-{
-    if f < 13 { f as usize } else { 6 }
 }
 
 // What follows the value of a field.
-fn want_after(kind: u32, f: u32) -> u32
+#[tactic(auto, unfolding(crate::specs::Line::after))]
+fn want_after(kind: Option<Kind>, f: usize) -> Want
     ensures { result ≡ after kind f }
 {
-    if kind == 1 {
-        if f == 0 {
-            return 4;
+    match kind {
+        Some(Kind::Chart) => {
+            if f == 0 {
+                Want::Value(1)
+            } else {
+                Want::Nothing
+            }
         }
-        return 1;
-    }
-    if kind == 2 {
-        if f < 4 {
-            return f + 4;
+        Some(Kind::Weights) => {
+            if f < 4 {
+                Want::Value(f + 1)
+            } else {
+                Want::Nothing
+            }
         }
-        return 1;
-    }
-    if f == 11 {
-        return 15;
-    }
-    2
-}
-
-fn fill(l: Line, f: u32, v: Value) -> Line
-    ensures { result ≡ fills l f v }
-{
-    match v {
-        Value::Is(n) => {
-            let at = slot_of(f);
-            let want = want_after(l.kind, f);
-            store(l, at, n, want)
+        Some(Kind::Play) | None => {
+            if f == 11 {
+                Want::Value(12)
+            } else {
+                Want::OptionName
+            }
         }
-        Value::Bad(number) => tell(l, number),
     }
 }
 
-fn judge(l: Line, w: &[u8]) -> Line
-    ensures { result ≡ judged l w.now }
-{
-    let want = l.want;
-    if want == 0 {
-        return open(l, kind_of(w));
+impl Line {
+    fn new() -> Line
+        ensures { result ≡ fresh }
+    {
+        Line {
+            fault: None,
+            word: Span { at: 0, size: 0 },
+            first: Span { at: 0, size: 0 },
+            kind: None,
+            want: Want::FirstWord,
+            fields: [None; 13],
+        }
     }
-    if want == 1 {
-        return tell(l, 2);
-    }
-    if want == 2 {
-        return name(l, option_of(w));
-    }
-    let f = want - 3;
-    fill(l, f, value_for(f, w))
-}
 
-// A word more, which starts at a place of the text.
-fn take_word(l: Line, at: usize, w: &[u8]) -> Line
-    ensures { result ≡ takes l (part at w.now) }
-{
-    if 0 < l.fault {
-        return l;
+    fn note(self, word: Span) -> Line
+        ensures { result ≡ noted self word }
+    {
+        Line { word, ..self }
     }
-    judge(note(l, at, w.len()), w)
-}
 
-// The end of the line.
-fn close(l: Line) -> Line
-    ensures { result ≡ closed l }
-{
-    if 0 < l.fault {
-        return l;
+    fn tell(self, fault: Fault) -> Line
+        ensures { result ≡ told self fault }
+    {
+        Line {
+            fault: Some(fault),
+            ..self
+        }
     }
-    if 2 < l.want {
-        return tell(l, 5);
+
+    fn begin(self, kind: Kind, want: Want) -> Line
+        ensures { result ≡ begun self kind want }
+    {
+        Line {
+            first: self.word,
+            kind: Some(kind),
+            want,
+            ..self
+        }
     }
-    l
+
+    fn await_next(self, want: Want) -> Line
+        ensures { result ≡ awaits self want }
+    {
+        Line { want, ..self }
+    }
+
+    fn store(mut self, f: usize, n: u64, want: Want) -> Line
+        requires { f < 13 }
+        ensures { result ≡ stores self f n want }
+    {
+        self.fields[f] = Some(n);
+        self.want = want;
+        self
+    }
+
+    // A line's first word.
+    fn open(self, kind: Option<Kind>) -> Line
+        ensures { result ≡ opens self kind }
+    {
+        match kind {
+            None => self.tell(Fault::BeginsNoLine),
+            Some(Kind::Play) => self.begin(Kind::Play, Want::Value(11)),
+            Some(other) => self.begin(other, Want::Value(0)),
+        }
+    }
+
+    // An option that is not given yet.
+    fn enter(self, option: PlayOption) -> Line
+        ensures { result ≡ named self option }
+    {
+        match option {
+            PlayOption::Valued(f) => self.await_next(Want::Value(f)),
+            PlayOption::Best => self.store(9, 0, Want::OptionName),
+            PlayOption::Worst => self.store(9, 1, Want::OptionName),
+            PlayOption::Classic => self.store(10, 1, Want::OptionName),
+        }
+    }
+
+    // An option's name.
+    #[tactic(auto, unfolding(crate::specs::Line::names))]
+    fn name(self, option: Option<PlayOption>) -> Line
+        ensures { result ≡ names self option }
+    {
+        let Some(option) = option else {
+            return self.tell(Fault::NoOption);
+        };
+        if self.fields[field_of(option)].is_some() {
+            return self.tell(Fault::GivenTwice);
+        }
+        self.enter(option)
+    }
+
+    #[tactic(auto, unfolding(crate::specs::Line::fills))]
+    fn fill(self, f: usize, v: Result<u64, Fault>) -> Line
+        ensures { result ≡ fills self f v }
+    {
+        match v {
+            Ok(n) => self.store(slot_of(f), n, want_after(self.kind, f)),
+            Err(fault) => self.tell(fault),
+        }
+    }
+
+    #[tactic(auto, unfolding(crate::specs::Line::judged, crate::specs::Line::judged_as))]
+    fn judge(self, w: &[u8]) -> Line
+        ensures { result ≡ judged self w.now }
+    {
+        match self.want {
+            Want::FirstWord => self.open(kind_of(w)),
+            Want::Nothing => self.tell(Fault::OneTooMany),
+            Want::OptionName => self.name(option_of(w)),
+            Want::Value(f) => self.fill(f, value_for(f, w)),
+        }
+    }
+
+    // A word more, which starts at a place of the text.
+    #[tactic(auto, unfolding(crate::specs::Line::takes))]
+    fn take_word(self, at: usize, w: &[u8]) -> Line
+        ensures { result ≡ takes self (part at w.now) }
+    {
+        if self.fault.is_some() {
+            return self;
+        }
+        self.note(Span { at, size: w.len() }).judge(w)
+    }
+
+    // The end of the line.
+    fn close(self) -> Line
+        ensures { result ≡ closed self }
+    {
+        if self.fault.is_some() {
+            return self;
+        }
+        match self.want {
+            Want::Value(_) => self.tell(Fault::ValueMissing),
+            _ => self,
+        }
+    }
 }
 
 // All words of a line that starts at a place of the text.
+#[tactic(auto, unfolding(crate::specs::Line::takes_all, crate::specs::Line::read_of))]
 fn read_words(s: &[u8], start: usize) -> Line
     requires { start + length s.now ≤ 18446744073709551615 }
     ensures { result ≡ read_of start s.now }
 {
-    let mut l = fresh_line();
-    let mut at: usize = 0;
-    while at < s.len() {
-        let a = words::skip_blanks(s, at);
-        let e = words::word_end(s, a);
-        if e == a {
-            return close(l);
-        }
-        l = take_word(l, start + a, &s[a..e]);
-        at = e;
+    let mut l = Line::new();
+    for (at, w) in Words::new(start, s) {
+        l = l.take_word(at, w);
     }
-    close(l)
+    l.close()
 }
 
 // A line that starts at a place of the text, the CR of its end with it.
+#[tactic(auto, unfolding(crate::specs::Line::line_of))]
 pub fn read_line(s: &[u8], start: usize) -> Line
     requires { start + length s.now ≤ 18446744073709551615 }
     ensures { result ≡ line_of (part start s.now) }

@@ -8,8 +8,11 @@ use native.Mathlib.Omega.{arith}
 use lib.Dec.{eqb}
 use lib.ListN.{length}
 use Rattle.little_endian.specs.Bytes.{bytes4}
+use Rattle.std.specs.Prelude.{Option, Some, None}
+use Rattle.typed_line.specs.declared.Kind.{Kind}
+use Rattle.typed_line.specs.declared.Kind.TheVariants.{Chart, Weights, Play}
 use Rattle.typed_line.specs.declared.Line.{Line}
-use Rattle.typed_records.specs.Records.{value_bytes, named_bytes, given_bytes, tail_bytes, play_bytes, record_bytes, record_size}
+use Rattle.typed_records.specs.Records.{value_bytes, named_bytes, given_bytes, tail_bytes, play_bytes, bytes_by, record_bytes, record_size}
 
 -- what weighs 256 times w or more does not change the digit of weight w
 digit : (n r w z : ℕ) → 0 < w → n ≡ r + w * (256 * z) → r / w % 256 ≡ n / w % 256
@@ -40,10 +43,11 @@ weights_size : (l : Line) → length (value_bytes l 5) ≡ 20
 unfolding value_bytes bytes4
 weights_size l = refl
 
+length_by : (k : Option Kind) (l : Line) → length (bytes_by k l) ≡ record_size k
+length_by (Some Chart) l = chart_size l
+length_by (Some Weights) l = weights_size l
+length_by (Some Play) l = length-play l
+length_by None l = length-play l
+
 pub length_record : (l : Line) → length (record_bytes l) ≡ record_size l.kind
-length_record l = go (eqb l.kind 1) (eqb l.kind 2) refl refl
-  where
-    go : (p q : Bool) → eqb l.kind 1 ≡ p → eqb l.kind 2 ≡ q → length (record_bytes l) ≡ record_size l.kind
-    go true q h k = rw h (chart_size l)
-    go false true h k = rw (h, k) (weights_size l)
-    go false false h k = rw (h, k) (length-play l)
+length_record l = length_by l.kind l

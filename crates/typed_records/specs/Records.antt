@@ -1,17 +1,20 @@
 -- The page 'A typed sheet' of docs/RULES.md: "What is not typed is missing: zero bytes and no presence bit (byte 6 is 1 where holds is
 -- typed)"; and that document's 'Records, byte by byte': the record of a line.
-use Rattle.std.specs.Prelude.{List, [], ◌∷◌, ◌++◌, cond, ℕ, ◌+◌, ◌*◌, ◌/◌, ◌%◌, eqb, get_or}
+use Rattle.std.specs.Prelude.{List, [], ◌∷◌, ◌++◌, cond, ℕ, ◌+◌, ◌*◌, ◌/◌, ◌%◌, get_or, is_some, Option, Some, None}
 use Rattle.lists.specs.Lists.{joined}
 use Rattle.little_endian.specs.Bytes.{bytes4}
+use Rattle.std.specs.Option.{unwrap_or}
+use Rattle.typed_line.specs.declared.Kind.{Kind}
+use Rattle.typed_line.specs.declared.Kind.TheVariants.{Chart, Weights, Play}
 use Rattle.typed_line.specs.declared.Line.{Line}
 
 -- a field's value, 0 where it is not typed
 abbrev pub value : Line → ℕ → ℕ
-value l f = get_or l.values f 0
+value l f = unwrap_or (get_or l.fields f None) 0
 
 -- 1 where the field is typed, else 0
 abbrev pub flag : Line → ℕ → ℕ
-flag l f = cond (eqb (get_or l.given f 0) 0) 0 1
+flag l f = cond (is_some (get_or l.fields f None)) 1 0
 
 abbrev pub value_at : Line → ℕ → List ℕ
 value_at l f = bytes4 (value l f)
@@ -42,9 +45,18 @@ unfoldable pub play_bytes : Line → List ℕ
 unfolding named_bytes given_bytes value_bytes tail_bytes
 play_bytes l = named_bytes l ++ given_bytes l ++ value_bytes l 6 ++ tail_bytes l
 
--- the record of a line of kind 1, 2 or 3
-abbrev pub record_bytes : Line → List ℕ
-record_bytes l = cond (eqb l.kind 1) (value_bytes l 2) (cond (eqb l.kind 2) (value_bytes l 5) (play_bytes l))
+-- the record of a line that has a kind
+abbrev pub bytes_by : Option Kind → Line → List ℕ
+bytes_by (Some Chart) l = value_bytes l 2
+bytes_by (Some Weights) l = value_bytes l 5
+bytes_by (Some Play) l = play_bytes l
+bytes_by None l = play_bytes l
 
-abbrev pub record_size : ℕ → ℕ
-record_size k = cond (eqb k 1) 8 (cond (eqb k 2) 20 48)
+abbrev pub record_bytes : Line → List ℕ
+record_bytes l = bytes_by l.kind l
+
+abbrev pub record_size : Option Kind → ℕ
+record_size (Some Chart) = 8
+record_size (Some Weights) = 20
+record_size (Some Play) = 48
+record_size None = 48

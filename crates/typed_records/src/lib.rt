@@ -4,9 +4,9 @@
 ghost use Rattle.std.specs.Prelude.{◌≡◌, ◌+◌, ◌*◌, ◌%◌, ◌≤◌, ◌<◌, length};
 ghost use Rattle.little_endian.specs.Bytes.{bytes4};
 ghost use Rattle.text.specs.Text.{Appended};
-ghost use Rattle.typed_records.specs.Records.{flag, value_bytes, presence, named_bytes, given_bytes, tail_bytes, play_bytes, record_bytes, record_size};
+ghost use Rattle.typed_records.specs.Records.{value, flag, value_bytes, presence, named_bytes, given_bytes, tail_bytes, play_bytes, record_bytes, record_size};
 
-use typed_line::Line;
+use typed_line::{Kind, Line};
 
 fn low(n: u64) -> u8
     ensures { result ≡ n % 256 }
@@ -24,6 +24,14 @@ pub fn put_number(out: &mut [u8], at: usize, n: u64) -> usize
     at + 4
 }
 
+// A field's value, 0 where it is not typed.
+fn value_of(l: Line, f: usize) -> u64
+    requires { f < 13 }
+    ensures { result ≡ value l f }
+{
+    l.fields[f].unwrap_or(0)
+}
+
 // The first n values of a line.
 fn put_values(out: &mut [u8], at: usize, l: Line, n: usize) -> usize
     requires n_in_bounds { at + 4 * n ≤ length out.old }
@@ -32,10 +40,8 @@ fn put_values(out: &mut [u8], at: usize, l: Line, n: usize) -> usize
     ensures value { result ≡ at + 4 * n }
 {
     let mut end = at;
-    let mut f: usize = 0;
-    while f < n {
-        end = put_number(out, end, l.values[f]);
-        f += 1;
+    for f in 0..n {
+        end = put_number(out, end, value_of(l, f));
     }
     end
 }
@@ -45,7 +51,7 @@ fn flag_of(l: Line, f: usize) -> u8
     requires { f < 13 }
     ensures { (result ≡ flag l f) × (result ≤ 1) }
 {
-    if l.given[f] == 0 { 0 } else { 1 }
+    u8::from(l.fields[f].is_some())
 }
 
 fn presence_of(l: Line) -> u8
@@ -67,10 +73,11 @@ fn put_named(out: &mut [u8], at: usize, l: Line) -> usize
     ensures appended { Appended out.old at out.new result (named_bytes l) }
     ensures value { result ≡ at + 4 }
 {
-    let high = text::put_byte(out, at, low(l.values[11]));
-    let method = text::put_byte(out, high, low(l.values[11] / 256));
-    let priority = text::put_byte(out, method, low(l.values[12]));
-    text::put_byte(out, priority, low(l.values[9]))
+    let chart = value_of(l, 11);
+    let high = text::put_byte(out, at, low(chart));
+    let method = text::put_byte(out, high, low(chart / 256));
+    let priority = text::put_byte(out, method, low(value_of(l, 12)));
+    text::put_byte(out, priority, low(value_of(l, 9)))
 }
 
 // The next four.
@@ -79,7 +86,7 @@ fn put_given(out: &mut [u8], at: usize, l: Line) -> usize
     ensures appended { Appended out.old at out.new result (given_bytes l) }
     ensures value { result ≡ at + 4 }
 {
-    let bits = text::put_byte(out, at, low(l.values[10]));
+    let bits = text::put_byte(out, at, low(value_of(l, 10)));
     let holds = text::put_byte(out, bits, presence_of(l));
     let zero = text::put_byte(out, holds, flag_of(l, 8));
     text::put_byte(out, zero, 0)
@@ -91,10 +98,11 @@ fn put_tail(out: &mut [u8], at: usize, l: Line) -> usize
     ensures appended { Appended out.old at out.new result (tail_bytes l) }
     ensures value { result ≡ at + 16 }
 {
-    let passed = put_number(out, at, l.values[7]);
-    let low_bits = put_number(out, passed, l.values[6]);
-    let high_bits = put_number(out, low_bits, l.values[6] / 4294967296);
-    put_number(out, high_bits, l.values[8])
+    let passed = put_number(out, at, value_of(l, 7));
+    let bits = value_of(l, 6);
+    let low_bits = put_number(out, passed, bits);
+    let high_bits = put_number(out, low_bits, bits / 4294967296);
+    put_number(out, high_bits, value_of(l, 8))
 }
 
 fn put_play(out: &mut [u8], at: usize, l: Line) -> usize
@@ -108,18 +116,15 @@ fn put_play(out: &mut [u8], at: usize, l: Line) -> usize
     put_tail(out, tail, l)
 }
 
-// The record of a line of kind 1, 2 or 3.
+// The record of a line that has a kind.
 pub fn put_record(out: &mut [u8], at: usize, l: Line) -> usize
     requires { at + record_size l.kind ≤ length out.old }
     ensures appended { Appended out.old at out.new result (record_bytes l) }
     ensures value { result ≡ at + record_size l.kind }
 {
-    let kind = l.kind;
-    if kind == 1 {
-        return put_values(out, at, l, 2);
+    match l.kind {
+        Some(Kind::Chart) => put_values(out, at, l, 2),
+        Some(Kind::Weights) => put_values(out, at, l, 5),
+        Some(Kind::Play) | None => put_play(out, at, l),
     }
-    if kind == 2 {
-        return put_values(out, at, l, 5);
-    }
-    put_play(out, at, l)
 }

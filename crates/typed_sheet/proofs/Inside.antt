@@ -6,17 +6,26 @@ use Prim.Native.Nat.{ℕ, ◌+◌, ◌-◌, ◌≤◌}
 use native.Mathlib.Omega.{arith}
 use lib.Dec.{eqb, ltb}
 use lib.ListN.{length, take, get_or, length-take}
-use Rattle.words.specs.declared.Value.{Value}
-use Rattle.words.specs.declared.Value.TheVariants.{Is, Bad}
+use Rattle.std.specs.Prelude.{Option, Some, None, Result, Ok, Err, is_some}
+use Rattle.words.specs.declared.Fault.{Fault}
+use Rattle.words.specs.declared.Fault.TheVariants.{BeginsNoLine, OneTooMany, NoOption, GivenTwice, ValueMissing, TooManyCharts, TooManyWeights, TooManyPlays}
 use Rattle.words.specs.Lines.{Part, part, line_size, lines_from, lines, unended}
 use Rattle.words.specs.Words.{blank, begins, more, word_size, words_from, words}
+use Rattle.typed_line.specs.declared.Span.{Span}
+use Rattle.typed_line.specs.declared.Kind.{Kind}
+use Rattle.typed_line.specs.declared.Kind.TheVariants.{Chart, Weights, Play}
+use Rattle.typed_line.specs.declared.PlayOption.{PlayOption}
+use Rattle.typed_line.specs.declared.PlayOption.TheVariants.{Valued, Best, Worst, Classic}
+use Rattle.typed_line.specs.declared.Want.{Want}
+use Rattle.typed_line.specs.declared.Want.TheVariants.{FirstWord, Nothing, OptionName, Value}
 use Rattle.typed_line.specs.declared.Line.{Line}
 use Rattle.typed_line.specs.Keywords.{kind_of, option_of}
-use Rattle.typed_line.specs.Line.{fresh, noted, told, begun, awaits, stores, opens, field_of, names, value_for, slot, after, fills, judged, takes, takes_all, closed, read_of, line_of}
+use Rattle.typed_line.specs.Line.{span, fresh, noted, told, begun, awaits, stores, first_want, opens, field_of, named, names, value_for, slot, after, fills, judged_as, judged, takes, takes_all, lacks, closed, read_of, line_of}
+use Rattle.typed_sheet.specs.declared.LineFault.{LineFault}
 use Rattle.typed_sheet.specs.declared.Tally.{Tally}
-use Rattle.typed_sheet.specs.declared.Typed.{Typed}
-use Rattle.typed_sheet.specs.declared.Typed.TheVariants.{Sheet, Fault, Short}
-use Rattle.typed_sheet.specs.Typed.{tallies, tally_all, none, tally_of, sheet_size, Outcome, outcome_of, typed_sheet}
+use Rattle.typed_sheet.specs.declared.TypedError.{TypedError}
+use Rattle.typed_sheet.specs.declared.TypedError.TheVariants.{Faulty, Short}
+use Rattle.typed_sheet.specs.Typed.{counted, counts, told_at, tallied_as, tallied, tallies, tally_all, none, tally_of, sheet_size, Outcome, outcome_of, typed_sheet}
 
 either : {A : Type 0} (P : A → Type 0) (b : Bool) {x y : A} → P x → P y → P (cond b x y)
 either P true p q = p
@@ -33,52 +42,57 @@ unended_size (b ∷ c ∷ s) = let h : length (unended (c ∷ s)) ≤ length (c 
 
 -- ---- a line
 pub record Within (n : ℕ) (l : Line) : Type 0 where
-  pub word : l.at + l.size ≤ n
-  pub first : l.first + l.letters ≤ n
+  pub word : l.word.at + l.word.size ≤ n
+  pub first : l.first.at + l.first.size ≤ n
 
 module _ (n : ℕ) where
-  told_within : (l : Line) (f : ℕ) → Within n l → Within n (told l f)
+  told_within : (l : Line) (f : Fault) → Within n l → Within n (told l f)
   told_within l f w = record { word = w.word; first = w.first }
 
-  begun_within : (l : Line) (k v : ℕ) → Within n l → Within n (begun l k v)
+  begun_within : (l : Line) (k : Kind) (v : Want) → Within n l → Within n (begun l k v)
   begun_within l k v w = record { word = w.word; first = w.word }
 
-  awaits_within : (l : Line) (v : ℕ) → Within n l → Within n (awaits l v)
+  awaits_within : (l : Line) (v : Want) → Within n l → Within n (awaits l v)
   awaits_within l v w = record { word = w.word; first = w.first }
 
-  stores_within : (l : Line) (f m v : ℕ) → Within n l → Within n (stores l f m v)
+  stores_within : (l : Line) (f m : ℕ) (v : Want) → Within n l → Within n (stores l f m v)
   stores_within l f m v w = record { word = w.word; first = w.first }
 
-  opens_within : (l : Line) (k : ℕ) → Within n l → Within n (opens l k)
-  unfolding opens
-  opens_within l k w =
-      either (Within n) (eqb k 0) (told_within l 1 w) (either (Within n) (eqb k 3) (begun_within l 3 14 w) (begun_within l k 3 w))
+  opens_within : (l : Line) (k : Option Kind) → Within n l → Within n (opens l k)
+  opens_within l None w = told_within l BeginsNoLine w
+  opens_within l (Some k) w = begun_within l k (first_want k) w
 
-  names_within : (l : Line) (o : ℕ) → Within n l → Within n (names l o)
+  named_within : (l : Line) (o : PlayOption) → Within n l → Within n (named l o)
+  named_within l (Valued f) w = awaits_within l (Value f) w
+  named_within l Best w = stores_within l 9 0 OptionName w
+  named_within l Worst w = stores_within l 9 1 OptionName w
+  named_within l Classic w = stores_within l 10 1 OptionName w
+
+  names_within : (l : Line) (o : Option PlayOption) → Within n l → Within n (names l o)
   unfolding names
-  names_within l o w =
-      either (Within n) (ltb 16 o) (told_within l 3 w)
-      (either (Within n) (eqb (get_or l.given (field_of o) 0) 0)
-      (either (Within n) (ltb o 14) (awaits_within l (3 + o) w) (stores_within l (field_of o) (cond (eqb o 14) 0 1) 2 w))
-      (told_within l 4 w))
+  names_within l None w = told_within l NoOption w
+  names_within l (Some o) w = either (Within n) (is_some (get_or l.fields (field_of o) None)) (told_within l GivenTwice w) (named_within l o w)
 
-  fills_within : (l : Line) (f : ℕ) (v : Value) → Within n l → Within n (fills l f v)
+  fills_within : (l : Line) (f : ℕ) (v : Result ℕ Fault) → Within n l → Within n (fills l f v)
   unfolding fills
-  fills_within l f (Is m) w = stores_within l (slot f) m (after l.kind f) w
-  fills_within l f (Bad number) w = told_within l number w
+  fills_within l f (Ok m) w = stores_within l (slot f) m (after l.kind f) w
+  fills_within l f (Err fault) w = told_within l fault w
 
-  judged_within : (l : Line) (v : List ℕ) → Within n l → Within n (judged l v)
+  judged-as_within : (v : Want) (l : Line) (b : List ℕ) → Within n l → Within n (judged_as v l b)
+  unfolding judged_as
+  judged-as_within FirstWord l b w = opens_within l (kind_of b) w
+  judged-as_within Nothing l b w = told_within l OneTooMany w
+  judged-as_within OptionName l b w = names_within l (option_of b) w
+  judged-as_within (Value f) l b w = fills_within l f (value_for f b) w
+
+  judged_within : (l : Line) (b : List ℕ) → Within n l → Within n (judged l b)
   unfolding judged
-  judged_within l v w =
-      either (Within n) (eqb l.want 0) (opens_within l (kind_of v) w)
-      (either (Within n) (eqb l.want 1) (told_within l 2 w)
-      (either (Within n) (eqb l.want 2) (names_within l (option_of v) w)
-      (fills_within l (l.want - 3) (value_for (l.want - 3) v) w)))
+  judged_within l b w = judged-as_within l.want l b w
 
   takes_within : (l : Line) (p : Part) → p.at + length p.bytes ≤ n → Within n l → Within n (takes l p)
   unfolding takes
   takes_within l p h w =
-      either (Within n) (ltb 0 l.fault) w (judged_within (noted l p.at (length p.bytes)) p.bytes (record { word = h; first = w.first }))
+      either (Within n) (is_some l.fault) w (judged_within (noted l (span p.at (length p.bytes))) p.bytes (record { word = h; first = w.first }))
 
   more_within : (p : Part) (ps : List Part) (l : Line) (b : Bool) → Within n (takes_all (takes l p) ps) → Within n (takes_all l ps) → Within n (takes_all l (more b p ps))
   unfolding takes_all
@@ -97,7 +111,7 @@ module _ (n : ℕ) where
       (words_within s (i + 1) (not (blank b)) l (omega arith) w))
 
   closed_within : (l : Line) → Within n l → Within n (closed l)
-  closed_within l w = either (Within n) (ltb 0 l.fault) w (either (Within n) (ltb 2 l.want) (told_within l 5 w) w)
+  closed_within l w = either (Within n) (is_some l.fault) w (either (Within n) (lacks l.want) (told_within l ValueMissing w) w)
 
   line_within : (p : Part) → p.at + length p.bytes ≤ n → Within n (line_of p)
   unfolding line_of read_of words
@@ -107,20 +121,28 @@ module _ (n : ℕ) where
       (words_within (unended p.bytes) p.at false fresh (omega arith) (record { word = omega arith; first = omega arith }))
 
   -- ---- a text
-  abbrev Told : Tally → Type 0
-  Told t = t.at + t.size ≤ n
+  abbrev Told : {A : Type 0} → Result A LineFault → Type 0
+  Told (Ok t) = Unit {0}
+  Told (Err f) = f.word.at + f.word.size ≤ n
 
-  tallies_within : (t : Tally) (nth : ℕ) (l : Line) → Told t → Within n l → Told (tallies t nth l)
+  told-at_within : (nth : ℕ) (word : Span) (r : Result Tally Fault) → word.at + word.size ≤ n → Told (told_at nth word r)
+  told-at_within nth word (Ok t) h = tt
+  told-at_within nth word (Err f) h = h
+
+  tallied-as_within : (k : Option Kind) (t : Tally) (nth : ℕ) (first : Span) → first.at + first.size ≤ n → Told (tallied_as k t nth first)
+  tallied-as_within (Some k) t nth first h = told-at_within nth first (counts t k) h
+  tallied-as_within None t nth first h = tt
+
+  tallied_within : (f : Option Fault) (t : Tally) (nth : ℕ) (l : Line) → Within n l → Told (tallied f t nth l)
+  tallied_within (Some f) t nth l w = w.word
+  tallied_within None t nth l w = tallied-as_within l.kind t nth l.first w.first
+
+  tallies_within : (t : Result Tally LineFault) (nth : ℕ) (l : Line) → Told t → Within n l → Told (tallies t nth l)
   unfolding tallies
-  tallies_within t nth l h w =
-      either Told (ltb 0 t.fault) h
-      (either Told (ltb 0 l.fault) w.word
-      (either Told (eqb l.kind 1) (either Told (ltb t.charts 256) h w.first)
-      (either Told (eqb l.kind 2) (either Told (ltb t.weights 1) h w.first)
-      (either Told (eqb l.kind 3) (either Told (ltb t.plays 1024) h w.first)
-      h))))
+  tallies_within (Ok t) nth l h w = tallied_within l.fault t nth l w
+  tallies_within (Err f) nth l h w = h
 
-  lines_within : (s : List ℕ) (i : ℕ) (begins : Bool) (t : Tally) (nth : ℕ) → i + length s ≤ n → Told t → Told (tally_all t nth (lines_from i begins s))
+  lines_within : (s : List ℕ) (i : ℕ) (begins : Bool) (t : Result Tally LineFault) (nth : ℕ) → i + length s ≤ n → Told t → Told (tally_all t nth (lines_from i begins s))
   unfolding tally_all lines_from
   lines_within [] i begins t nth h w = w
   lines_within (b ∷ s) i true t nth h w =
@@ -129,19 +151,21 @@ module _ (n : ℕ) where
       lines_within s (i + 1) (eqb b 10) (tallies t (nth + 1) (line_of p)) (nth + 1) (omega arith) (tallies_within t (nth + 1) (line_of p) w (line_within p (omega arith)))
   lines_within (b ∷ s) i false t nth h w = lines_within s (i + 1) (eqb b 10) t nth (omega arith) w
 
-tally_within : (text : List ℕ) → (tally_of text).at + (tally_of text).size ≤ length text
+tally_within : (text : List ℕ) → Told (length text) (tally_of text)
 unfolding tally_of lines
-tally_within text = lines_within (length text) text 0 true none 0 (omega arith) (omega arith)
+tally_within text = lines_within (length text) text 0 true none 0 (omega arith) tt
 
 -- of a fault the word's place; of any other answer nothing
-abbrev pub Inside : ℕ → Typed → Type 0
-Inside n (Sheet size) = Unit {0}
-Inside n (Fault line number start size) = start + size ≤ n
-Inside n Short = Unit {0}
+abbrev pub Inside : ℕ → Result ℕ TypedError → Type 0
+Inside n (Ok size) = Unit {0}
+Inside n (Err (Faulty told)) = told.word.at + told.word.size ≤ n
+Inside n (Err Short) = Unit {0}
+
+outcome_within : (text out : List ℕ) (r : Result Tally LineFault) → Told (length text) r → Inside (length text) (outcome_of text out r).answer
+unfolding outcome_of
+outcome_within text out (Err told) h = h
+outcome_within text out (Ok t) h = either (λ (o : Outcome). Inside (length text) o.answer) (ltb (length out) (sheet_size t)) tt tt
 
 pub inside : (text out : List ℕ) → Inside (length text) (typed_sheet text out).answer
-unfolding typed_sheet outcome_of
-inside text out =
-    let t : Tally = tally_of text in
-    either (λ (o : Outcome). Inside (length text) o.answer) (ltb 0 t.fault) (tally_within text)
-    (either (λ (o : Outcome). Inside (length text) o.answer) (ltb (length out) (sheet_size t)) tt tt)
+unfolding typed_sheet
+inside text out = outcome_within text out (tally_of text) (tally_within text)

@@ -1,3 +1,5 @@
+pub mod Within
+pub mod Judged
 pub mod Sections
 pub mod Tallies
 pub mod Whole

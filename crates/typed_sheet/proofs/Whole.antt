@@ -6,12 +6,15 @@ use Prim.Native.Nat.{ℕ, ◌+◌, ◌<◌, ◌≤◌}
 use native.Mathlib.Omega.{arith}
 use lib.ListN.{length, drop, length-append}
 use borrow.Author.Tests.{lt-ltb, le-ltb}
+use Rattle.std.specs.Prelude.{Ok, Err}
 use Rattle.lists.specs.Lists.{put}
 use Rattle.little_endian.specs.Bytes.{bytes4}
 use Rattle.text.specs.Text.{Appended}
 use Rattle.words.specs.Lines.{lines}
+use Rattle.typed_line.specs.declared.Kind.TheVariants.{Chart, Weights, Play}
+use Rattle.typed_sheet.specs.declared.LineFault.{LineFault}
 use Rattle.typed_sheet.specs.declared.Tally.{Tally}
-use Rattle.typed_sheet.specs.declared.Typed.TheVariants.{Sheet, Fault, Short}
+use Rattle.typed_sheet.specs.declared.TypedError.TheVariants.{Faulty, Short}
 use Rattle.typed_sheet.specs.Typed.{records, tally_of, sheet_size, sheet_bytes, outcome_of, typed_sheet, Says}
 use Rattle.typed_sheet.proofs.Tallies.{Fine}
 
@@ -20,28 +23,28 @@ unfolding bytes4
 length_four n = refl
 
 pub length_sections : (text : List ℕ) (c w p : ℕ)
-    → length (sheet_bytes text c w p) ≡ 12 + length (records 1 (lines text)) + length (records 2 (lines text)) + length (records 3 (lines text))
+    → length (sheet_bytes text c w p) ≡ 12 + length (records Chart (lines text)) + length (records Weights (lines text)) + length (records Play (lines text))
 unfolding sheet_bytes
 length_sections text c w p = simp (length-append, length_four c, length_four w, length_four p) (omega arith)
 
-module _ (text out : List ℕ) (t : Tally) (e : t ≡ tally_of text) where
-  pub at_fault : 0 < t.fault → Says (typed_sheet text out) (Fault t.line t.fault t.at t.size) out
-  unfolding typed_sheet outcome_of
-  at_fault h = rw (← e, lt-ltb 0 t.fault h) (record { answers = refl; holds = refl })
+pub at_fault : (text out : List ℕ) (told : LineFault) → tally_of text ≡ Err told → Says (typed_sheet text out) (Err (Faulty told)) out
+unfolding typed_sheet outcome_of
+at_fault text out told e = rw e (record { answers = refl; holds = refl })
 
-  pub too_short : t.fault ≤ 0 → length out < sheet_size t → Says (typed_sheet text out) Short out
+module _ (text out : List ℕ) (t : Tally) (e : tally_of text ≡ Ok t) where
+  pub too_short : length out < sheet_size t → Says (typed_sheet text out) (Err Short) out
   unfolding typed_sheet outcome_of
-  too_short h k = rw (← e, le-ltb 0 t.fault h, lt-ltb (length out) (sheet_size t) k) (record { answers = refl; holds = refl })
+  too_short k = rw (e, lt-ltb (length out) (sheet_size t) k) (record { answers = refl; holds = refl })
 
   -- the sheet's bytes at the front of the output
-  pub in_full : t.fault ≤ 0 → sheet_size t ≤ length out → (size : ℕ) (out' : List ℕ) → length (sheet_bytes text t.charts t.weights t.plays) ≡ sheet_size t
-      → Appended out 0 out' size (sheet_bytes text t.charts t.weights t.plays) → Says (typed_sheet text out) (Sheet size) out'
+  pub in_full : sheet_size t ≤ length out → (size : ℕ) (out' : List ℕ) → length (sheet_bytes text t.charts t.weights t.plays) ≡ sheet_size t
+      → Appended out 0 out' size (sheet_bytes text t.charts t.weights t.plays) → Says (typed_sheet text out) (Ok size) out'
   unfolding typed_sheet outcome_of put
-  in_full h k size out' l a =
+  in_full k size out' l a =
       let z : size ≡ sheet_size t = a.ends ∙ omega arith in
       let n : 0 + length (sheet_bytes text t.charts t.weights t.plays) ≡ sheet_size t = omega arith in
-      rw (← e, le-ltb 0 t.fault h, le-ltb (length out) (sheet_size t) k)
-      (record { answers = ap Sheet z; holds = a.bytes ∙ ap (λ (m : ℕ). sheet_bytes text t.charts t.weights t.plays ++ drop m out) n })
+      rw (e, le-ltb (length out) (sheet_size t) k)
+      (record { answers = ap Ok z; holds = a.bytes ∙ ap (λ (m : ℕ). sheet_bytes text t.charts t.weights t.plays ++ drop m out) n })
 
 pub sheet-length : (text : List ℕ) (t : Tally) → Fine text t → length (sheet_bytes text t.charts t.weights t.plays) ≡ sheet_size t
 sheet-length text t f = length_sections text t.charts t.weights t.plays ∙ omega (arith, f.charts, f.weights, f.plays)

@@ -1,180 +1,164 @@
 // The sheet of a text that is typed.
 #![tactic(auto)]
 
-ghost use Rattle.std.specs.Prelude.{◌≡◌, ◌+◌, ◌*◌, ◌≤◌, length};
+ghost use Rattle.std.specs.Prelude.{◌≡◌, ◌+◌, ◌*◌, ◌≤◌, length, Ok, IfOk};
 ghost use Rattle.text.specs.Text.{Appended};
 ghost use Rattle.words.specs.Lines.{lines};
-ghost use Rattle.typed_sheet.specs.Typed.{stopped, counted, tallies, tally_of, records, sheet_bytes, typed_sheet, Says, NextTo};
+ghost use Rattle.typed_sheet.specs.Typed.{counts, tallies, tally_of, is_kind, records, sheet_bytes, typed_sheet, Says};
+ghost use Rattle.typed_sheet.specs.declared.TypedError.TheVariants.{Faulty};
 
-use typed_line::Line;
+use typed_line::{Kind, Line, Span};
+use words::{Fault, Lines};
 
-// What is known after some lines: specs/Typed.antt says of each field what it is.
-#[derive(Clone, Copy)]
+// How many lines of each kind there are among some lines without a fault.
+#[derive(Clone, Copy, PartialEq, Eq, Debug)]
 pub struct Tally {
-    pub fault: u32,
-    pub line: usize,
-    pub at: usize,
-    pub size: usize,
     pub charts: usize,
     pub weights: usize,
     pub plays: usize,
 }
 
-#[derive(Clone, Copy)]
-pub enum Typed {
-    // The sheet's length.
-    Sheet(usize),
-    // The line, counted from 1, the fault's number, and where its word stands in the text.
-    Fault {
-        line: usize,
-        number: u32,
-        start: usize,
-        length: usize,
-    },
+// A text's first fault: its line, counted from 1, and the word at which it was found.
+#[derive(Clone, Copy, PartialEq, Eq, Debug)]
+pub struct LineFault {
+    pub line: usize,
+    pub fault: Fault,
+    pub word: Span,
+}
+
+#[derive(Clone, Copy, PartialEq, Eq, Debug)]
+pub enum TypedError {
+    Faulty(LineFault),
     // The output has too few bytes for the sheet.
     Short,
 }
 
-fn stop(t: Tally, nth: usize, number: u32, at: usize, size: usize) -> Tally
-    ensures { result ≡ stopped t nth number at size }
-{
-    Tally {
-        fault: number,
-        line: nth,
-        at: at,
-        size: size,
-        charts: t.charts,
-        weights: t.weights,
-        plays: t.plays,
+impl From<LineFault> for TypedError {
+    ghost from_gives = { λ told e. e ≡ Faulty told };
+
+    fn from(told: LineFault) -> TypedError {
+        TypedError::Faulty(told)
     }
 }
 
-fn count_in(t: Tally, charts: usize, weights: usize, plays: usize) -> Tally
-    ensures { result ≡ counted t charts weights plays }
+// A line of a kind more.
+fn count_line(t: Tally, kind: Kind) -> Result<Tally, Fault>
+    ensures { result ≡ counts t kind }
 {
-    Tally {
-        fault: t.fault,
-        line: t.line,
-        at: t.at,
-        size: t.size,
-        charts: charts,
-        weights: weights,
-        plays: plays,
+    match kind {
+        Kind::Chart => {
+            if t.charts < 256 {
+                Ok(Tally {
+                    charts: t.charts + 1,
+                    ..t
+                })
+            } else {
+                Err(Fault::TooManyCharts)
+            }
+        }
+        Kind::Weights => {
+            if t.weights < 1 {
+                Ok(Tally {
+                    weights: t.weights + 1,
+                    ..t
+                })
+            } else {
+                Err(Fault::TooManyWeights)
+            }
+        }
+        Kind::Play => {
+            if t.plays < 1024 {
+                Ok(Tally {
+                    plays: t.plays + 1,
+                    ..t
+                })
+            } else {
+                Err(Fault::TooManyPlays)
+            }
+        }
     }
 }
 
 // A line more.
-fn tally_line(t: Tally, nth: usize, l: Line) -> Tally
-    ensures { result ≡ tallies t nth l }
+#[tactic(auto, unfolding(crate::specs::Typed::tallies))]
+fn tally_line(t: Tally, nth: usize, l: Line) -> Result<Tally, LineFault>
+    ensures { result ≡ tallies (Ok t) nth l }
 {
-    if 0 < t.fault {
-        return t;
+    if let Some(fault) = l.fault {
+        return Err(LineFault {
+            line: nth,
+            fault,
+            word: l.word,
+        });
     }
-    if 0 < l.fault {
-        return stop(t, nth, l.fault, l.at, l.size);
-    }
-    let kind = l.kind;
-    if kind == 1 {
-        if t.charts < 256 {
-            return count_in(t, t.charts + 1, t.weights, t.plays);
-        }
-        return stop(t, nth, 12, l.first, l.letters);
-    }
-    if kind == 2 {
-        if t.weights < 1 {
-            return count_in(t, t.charts, t.weights + 1, t.plays);
-        }
-        return stop(t, nth, 13, l.first, l.letters);
-    }
-    if kind == 3 {
-        if t.plays < 1024 {
-            return count_in(t, t.charts, t.weights, t.plays + 1);
-        }
-        return stop(t, nth, 14, l.first, l.letters);
-    }
-    t
-}
-
-// Where the line behind the one that ends at e starts, or the end of the text.
-fn next_line(text: &[u8], e: usize) -> usize
-    requires { e ≤ length text.now }
-    ensures { NextTo text.now e result }
-{
-    if e < text.len() { e + 1 } else { e }
+    let Some(kind) = l.kind else {
+        return Ok(t);
+    };
+    count_line(t, kind).map_err(|fault| LineFault {
+        line: nth,
+        fault,
+        word: l.first,
+    })
 }
 
 // The judgement of all lines.
-fn tally_text(text: &[u8]) -> Tally
-    ensures { result ≡ tally_of text.now }
+fn tally_text(text: &[u8]) -> Result<Tally, LineFault>
+    ensures value { result ≡ tally_of text.now }
+    ensures bound { IfOk result (λ t. (t.charts ≤ 256) × (t.weights ≤ 1) × (t.plays ≤ 1024)) }
 {
     let mut t = Tally {
-        fault: 0,
-        line: 0,
-        at: 0,
-        size: 0,
         charts: 0,
         weights: 0,
         plays: 0,
     };
-    let mut nth: usize = 0;
-    let mut at: usize = 0;
-    while at < text.len() {
-        let e = words::line_end(text, at);
-        let l = typed_line::read_line(&text[at..e], at);
-        nth += 1;
-        t = tally_line(t, nth, l);
-        at = next_line(text, e);
+    for (i, (at, line)) in Lines::new(text).enumerate() {
+        t = tally_line(t, i + 1, typed_line::read_line(line, at))?;
     }
-    t
+    Ok(t)
+}
+
+fn is_kind(l: Line, kind: Kind) -> bool
+    ensures { result ≡ is_kind kind l.kind }
+{
+    l.kind == Some(kind)
 }
 
 // The records of one kind, one after the other from a place on; it answers where they end.
-fn write_kind(text: &[u8], kind: u32, out: &mut [u8], place: usize) -> usize
+fn write_kind(text: &[u8], kind: Kind, out: &mut [u8], place: usize) -> usize
     requires { place + length (records kind (lines text.now)) ≤ length out.old }
     ensures { Appended out.old place out.new result (records kind (lines text.now)) }
 {
     let mut to = place;
-    let mut at: usize = 0;
-    while at < text.len() {
-        let e = words::line_end(text, at);
-        let l = typed_line::read_line(&text[at..e], at);
-        if l.kind == kind {
+    for (at, line) in Lines::new(text) {
+        let l = typed_line::read_line(line, at);
+        if is_kind(l, kind) {
             to = typed_records::put_record(out, to, l);
         }
-        at = next_line(text, e);
     }
     to
 }
 
 // The three sections, each after its count, at the front of the output.
-fn write_sheet(text: &[u8], out: &mut [u8], charts: usize, weights: usize, plays: usize) -> usize
-    requires { length (sheet_bytes text.now charts weights plays) ≤ length out.old }
-    ensures { Appended out.old 0 out.new result (sheet_bytes text.now charts weights plays) }
+fn write_sheet(text: &[u8], out: &mut [u8], t: Tally) -> usize
+    requires { length (sheet_bytes text.now t.charts t.weights t.plays) ≤ length out.old }
+    ensures { Appended out.old 0 out.new result (sheet_bytes text.now t.charts t.weights t.plays) }
 {
-    let first = typed_records::put_number(out, 0, charts as u64);
-    let second = write_kind(text, 1, out, first);
-    let third = typed_records::put_number(out, second, weights as u64);
-    let fourth = write_kind(text, 2, out, third);
-    let fifth = typed_records::put_number(out, fourth, plays as u64);
-    write_kind(text, 3, out, fifth)
+    let first = typed_records::put_number(out, 0, t.charts as u64);
+    let second = write_kind(text, Kind::Chart, out, first);
+    let third = typed_records::put_number(out, second, t.weights as u64);
+    let fourth = write_kind(text, Kind::Weights, out, third);
+    let fifth = typed_records::put_number(out, fourth, t.plays as u64);
+    write_kind(text, Kind::Play, out, fifth)
 }
 
-// The sheet of a text, at the front of the output.
-pub fn sheet_of(text: &[u8], out: &mut [u8]) -> Typed
+// The sheet of a text, at the front of the output; it answers the sheet's length.
+pub fn sheet_of(text: &[u8], out: &mut [u8]) -> Result<usize, TypedError>
     ensures { Says (typed_sheet text.now out.old) result out.new }
 {
-    let t = tally_text(text);
-    if 0 < t.fault {
-        return Typed::Fault {
-            line: t.line,
-            number: t.fault,
-            start: t.at,
-            length: t.size,
-        };
-    }
+    let t = tally_text(text)?;
     let size = 12 + 8 * t.charts + 20 * t.weights + 48 * t.plays;
     if out.len() < size {
-        return Typed::Short;
+        return Err(TypedError::Short);
     }
-    Typed::Sheet(write_sheet(text, out, t.charts, t.weights, t.plays))
+    Ok(write_sheet(text, out, t))
 }

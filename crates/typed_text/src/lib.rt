@@ -3,10 +3,11 @@
 
 ghost use Rattle.std.specs.Prelude.{◌≡◌, ◌+◌, ◌≤◌, ◌<◌, length};
 ghost use Rattle.lists.specs.Lists.{joined};
-ghost use Rattle.text.specs.Text.{Appended};
+ghost use Rattle.text.specs.Written.{HasRoom, Gained};
 ghost use Rattle.typed_text.specs.SheetText.{stop_of, row_fault, fault_at, first_stopped, line_at, Placed, sheet_text, Says, Counted};
 
 use records::Row;
+use text::Text;
 
 // Where a sheet's records are: specs/SheetText.antt says of each field what it is.
 #[derive(Clone, Copy)]
@@ -76,35 +77,33 @@ fn first_stopped(sheet: &[u8], p: Places) -> usize
     ensures { result ≡ first_stopped sheet.now }
 {
     let n = p.queries;
-    let mut i: usize = 0;
-    while i < n {
+    for i in 0..n {
         if fault_at(sheet, p, i) > 0 {
             return i;
         }
-        i += 1;
     }
-    i
+    n
 }
 
-// Line j of the text, at the start of a buffer.
-fn put_line(line: &mut [u8], sheet: &[u8], p: Places, j: usize) -> usize
+// Line j of the text.
+fn put_line(line: &mut Text<'_>, sheet: &[u8], p: Places, j: usize)
     requires placed { Placed sheet.now p }
     requires j_bound { j < p.charts + p.own + p.queries }
-    requires in_bounds { 195 ≤ length line.old }
-    ensures appended { Appended line.old 0 line.new result (line_at sheet.now j) }
-    ensures upper_bound { result ≤ 195 }
+    requires room { HasRoom line.old 195 }
+    ensures gained { Gained line.old line.new (line_at sheet.now j) }
+    ensures upper_bound { line.new.len ≤ line.old.len + 195 }
 {
     let charts = p.charts;
     if j < charts {
-        return sheet_lines::put_chart(line, 0, records::read_chart(sheet, 4 + 8 * j));
+        return sheet_lines::put_chart(line, records::read_chart(sheet, 4 + 8 * j));
     }
     let before = charts + p.own;
     if j < before {
         let at = p.weights;
-        return sheet_lines::put_weights(line, 0, records::read_weights(sheet, at));
+        return sheet_lines::put_weights(line, records::read_weights(sheet, at));
     }
     let base = p.rows;
-    sheet_lines::put_play(line, 0, records::read_row(sheet, base + 48 * (j - before)))
+    sheet_lines::put_play(line, records::read_row(sheet, base + 48 * (j - before)));
 }
 
 fn line_size(sheet: &[u8], p: Places, j: usize) -> usize
@@ -112,8 +111,10 @@ fn line_size(sheet: &[u8], p: Places, j: usize) -> usize
     requires j_bound { j < p.charts + p.own + p.queries }
     ensures { (result ≡ length (line_at sheet.now j)) × (result ≤ 195) }
 {
-    let mut line = [0u8; sheet_lines::ROOM];
-    put_line(&mut line, sheet, p, j)
+    let mut bytes = [0u8; sheet_lines::ROOM];
+    let mut line = Text::new(&mut bytes);
+    put_line(&mut line, sheet, p, j);
+    line.len()
 }
 
 // How many bytes the first n lines have.
@@ -123,40 +124,36 @@ fn text_size(sheet: &[u8], p: Places, n: usize) -> usize
     ensures { result ≡ length (joined (line_at sheet.now) n) }
 {
     let mut size: usize = 0;
-    let mut j: usize = 0;
-    while j < n {
+    for j in 0..n {
         size += line_size(sheet, p, j);
-        j += 1;
     }
     size
 }
 
-// Line j, appended to the output.
-fn write_line(out: &mut [u8], at: usize, sheet: &[u8], p: Places, j: usize) -> usize
+// Line j, where there may be room for no more.
+fn write_line(text: &mut Text<'_>, sheet: &[u8], p: Places, j: usize)
     requires placed { Placed sheet.now p }
     requires j_bound { j < p.charts + p.own + p.queries }
-    requires j_in_bounds { at + length (line_at sheet.now j) ≤ length out.old }
-    ensures { Appended out.old at out.new result (line_at sheet.now j) }
+    requires room { HasRoom text.old (length (line_at sheet.now j)) }
+    ensures { Gained text.old text.new (line_at sheet.now j) }
 {
-    let mut line = [0u8; sheet_lines::ROOM];
-    let end = put_line(&mut line, sheet, p, j);
-    text::put_bytes(out, at, &line[..end])
+    let mut bytes = [0u8; sheet_lines::ROOM];
+    let mut line = Text::new(&mut bytes);
+    put_line(&mut line, sheet, p, j);
+    let end = line.len();
+    text.put_bytes(&bytes[..end]);
 }
 
-// The first n lines, at the front of the output.
-fn write_lines(out: &mut [u8], sheet: &[u8], p: Places, n: usize) -> usize
+// The first n lines.
+fn write_lines(text: &mut Text<'_>, sheet: &[u8], p: Places, n: usize)
     requires placed { Placed sheet.now p }
     requires n_value { n ≡ p.charts + p.own + p.queries }
-    requires n_in_bounds { length (joined (line_at sheet.now) n) ≤ length out.old }
-    ensures { Appended out.old 0 out.new result (joined (line_at sheet.now) n) }
+    requires room { HasRoom text.old (length (joined (line_at sheet.now) n)) }
+    ensures { Gained text.old text.new (joined (line_at sheet.now) n) }
 {
-    let mut end: usize = 0;
-    let mut j: usize = 0;
-    while j < n {
-        end = write_line(out, end, sheet, p, j);
-        j += 1;
+    for j in 0..n {
+        write_line(text, sheet, p, j);
     }
-    end
 }
 
 // The text of a sheet, at the front of the output.
@@ -180,5 +177,7 @@ pub fn text_of(sheet: &[u8], out: &mut [u8]) -> SheetText
     if out.len() < text_size(sheet, p, n) {
         return SheetText::Short;
     }
-    SheetText::Text(write_lines(out, sheet, p, n))
+    let mut text = Text::new(out);
+    write_lines(&mut text, sheet, p, n);
+    SheetText::Text(text.len())
 }

@@ -9,7 +9,6 @@ use native.Mathlib.Nat.{sub-zero}
 use native.Mathlib.Numerals.{add-one}
 use native.Mathlib.Omega.{arith}
 use lib.Dec.{ltb}
-use borrow.Author.Tests.{ltb-true, ltb-false}
 use Rattle.units.specs.Limits.{most32}
 use Rattle.units.specs.Gap.{gap}
 use Rattle.nearest_laws.specs.Walk.{Middle, Best, over, offer, settle, rows, lowest, pair, settings}

@@ -20,22 +20,12 @@ pub enum Scoring {
 pub fn is_weighting(weights: Weights) -> bool
     ensures { result ≡ weighs (weights_of weights) }
 {
-    if weights.n320 > 100 {
-        return false;
-    }
-    if weights.n300 > weights.n320 {
-        return false;
-    }
-    if weights.n200 >= weights.n300 {
-        return false;
-    }
-    if weights.n100 >= weights.n200 {
-        return false;
-    }
-    if weights.n50 >= weights.n100 {
-        return false;
-    }
-    weights.n50 >= 1
+    weights.n320 <= 100
+        && weights.n300 <= weights.n320
+        && weights.n200 < weights.n300
+        && weights.n100 < weights.n200
+        && weights.n50 < weights.n100
+        && weights.n50 >= 1
 }
 
 // Whether check 18 lets the weights pass; the standard ones always do.

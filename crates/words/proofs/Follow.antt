@@ -3,15 +3,18 @@
 -- Assumes nothing.
 use mathlib.Core.Path.{◌≡◌, refl, ap, sym, ◌∙◌}
 use mathlib.Core.List.{List, [], ◌∷◌}
-use mathlib.Core.Bool.{Bool, true, false}
-use Prim.Native.Nat.{ℕ, suc, ◌+◌, ◌-◌, ◌<◌, ◌≤◌}
+use mathlib.Core.Bool.{Bool, true, false, not, cond}
+use Prim.Native.Nat.{ℕ, suc, ◌+◌, ◌-◌, ◌<◌, ◌≤◌, min}
+use mathlib.Core.Logic.{◌⊎◌, inl, inr}
 use native.Mathlib.Omega.{arith}
 use lib.Dec.{eqb}
 use lib.ListN.{length, take, drop, length-drop}
 use lib.Seq.{drop-drop}
-use borrow.Author.Tests.{eqb-true}
+use Rattle.std.proofs.Math.Seq.{take-nil}
+use borrow.Author.Tests.{eqb-true, eqb-false}
+use Rattle.std.proofs.lemmas.List.{take_all}
 use Rattle.words.specs.Lines.{Part, part, line_size, lines_from}
-use Rattle.words.specs.Words.{blank, blanks, word_size, words_from}
+use Rattle.words.specs.Words.{blank, blanks, word_size, begins, more, words_from, words}
 use Rattle.words.proofs.Sizes.{over}
 
 -- ---- words
@@ -148,6 +151,41 @@ module _ (s : List ℕ) (base at a e : ℕ) (h : a ≡ at + blanks (drop at s)) 
       let d : drop (e - a) (drop a s) ≡ drop e s = drop-drop (e - a) a s ∙ ap (λ (m : ℕ). drop m s) f in
       first ∙ some (drop a s) (base + a) no_blank n ∙ rw (t, b, d)
 
+-- what a walk over the words of s, which starts at i, has next: past the blanks to a, past a word to e
+module _ (s : List ℕ) (i a e : ℕ) (h : a ≡ 0 + blanks s) (k : e ≡ a + word_size (drop a s)) where
+  start : words i s ≡ words_from (i + 0) false (drop 0 s)
+  unfolding words
+  start = let z : i ≡ i + 0 = omega arith in ap (λ (n : ℕ). words_from n false s) z
+
+  rest : words (i + e) (take (length s - e) (drop e s)) ≡ words_from (i + e) false (drop e s)
+  unfolding words
+  rest = ap (words_from (i + e) false) (take_all (length s - e) (drop e s) (omega (arith, length-drop e s)))
+
+  pub none_left : e ≡ a → (words i s ≡ []) × (words (i + e) (take (length s - e) (drop e s)) ≡ [])
+  none_left z =
+      let n = words-none s i 0 a e h k z in
+      let f = first s i 0 a e h k in
+      (start ∙ n, rest ∙ ap (λ (m : ℕ). words_from (i + m) false (drop m s)) z ∙ sym f ∙ n)
+
+  pub one_left : (e ≡ a → ⊥) → words i s ≡ part (i + a) (take (e - a) (drop a s)) ∷ words (i + e) (take (length s - e) (drop e s))
+  one_left z = start ∙ words-some s i 0 a e h k z ∙ ap (λ (ps : List Part). part (i + a) (take (e - a) (drop a s)) ∷ ps) (sym rest)
+
+-- there are no more words than bytes
+few_by : (b : ℕ) (s : List ℕ) (i : ℕ) (q x y : Bool) → length (words_from (i + 1) (not (blank b)) s) ≤ length s
+    → length (cond x [] (more y (part i (take (word_size (b ∷ s)) (b ∷ s))) (words_from (i + 1) (not (blank b)) s))) ≤ suc (length s)
+few_by b s i q true y ih = omega arith
+few_by b s i q false true ih = omega arith
+few_by b s i q false false ih = omega arith
+
+few_from : (s : List ℕ) (i : ℕ) (q : Bool) → length (words_from i q s) ≤ length s
+unfolding words_from
+few_from [] i q = omega arith
+few_from (b ∷ s) i q = few_by b s i q (eqb b 35) (begins q b) (few_from s (i + 1) (not (blank b)))
+
+pub few_words : (i : ℕ) (s : List ℕ) → length (words i s) ≤ length s
+unfolding words
+few_words i s = few_from s i false
+
 -- ---- lines
 line_by : (b : ℕ) (s : List ℕ) (i : ℕ) → lines_from (i + 1) false s ≡ lines_from (i + 1 + (suc (line_size s))) true (drop (suc (line_size s)) s) → (p : Bool)
     → eqb b 10 ≡ p → lines_from (i + 1) (eqb b 10) s ≡ lines_from (i + (suc (line_size (b ∷ s)))) true (drop (suc (line_size (b ∷ s))) (b ∷ s))
@@ -180,3 +218,31 @@ lines-some s at e h k =
 pub lines-over : (s : List ℕ) (i : ℕ) → length s ≤ i → lines_from i true (drop i s) ≡ []
 unfolding lines_from
 lines-over s i h = rw (over s i h)
+
+-- what a walk over the lines of s, which starts at i, has next: a line up to e, and what starts at n
+pub no_lines : (s : List ℕ) (i : ℕ) → eqb (length s) 0 ≡ true → lines_from i true s ≡ []
+unfolding lines_from
+no_lines [] i h = refl
+no_lines (b ∷ s) i h = absurd (let z = eqb-true (length (b ∷ s)) 0 h in omega arith)
+
+nothing : (a b : ℕ) → lines_from a true [] ≡ lines_from b true []
+unfolding lines_from
+nothing a b = refl
+
+module _ (s : List ℕ) (i e n : ℕ) (some_left : eqb (length s) 0 ≡ false) (k : e ≡ 0 + line_size s) (m : n ≡ min (length s) (e + 1)) where
+  behind_it : (n ≡ e + 1) ⊎ (length s ≤ n) → lines_from (i + suc e) true (drop (suc e) s) ≡ lines_from (i + n) true (take (length s - n) (drop n s))
+  behind_it (inl z) =
+      let t = take_all (length s - n) (drop n s) (omega (arith, length-drop n s)) in
+      let y : n ≡ suc e = omega arith in
+      rw (t, y)
+  behind_it (inr z) =
+      let t : take (length s - n) (drop n s) ≡ [] = ap (take (length s - n)) (over s n z) ∙ take-nil (length s - n) in
+      let y : length s ≤ suc e = omega arith in
+      rw (t, over s (suc e) y) (nothing (i + suc e) (i + n))
+
+  pub line_left : lines_from i true s ≡ part i (take e s) ∷ lines_from (i + n) true (take (length s - n) (drop n s))
+  line_left =
+      let l : 0 < length s = omega (arith, eqb-false (length s) 0 some_left) in
+      let y : line_size s ≡ e = omega arith in
+      let x : (n ≡ e + 1) ⊎ (length s ≤ n) = grind arith in
+      lines-first s i l ∙ rw y (ap (λ (ps : List Part). part i (take e s) ∷ ps) (behind_it x))

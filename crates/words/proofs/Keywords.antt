@@ -1,17 +1,27 @@
 -- A word is a keyword just where its letters, A to Z read as a to z, are the keyword's; how a word is compared letter by letter, and with
 -- keyword after keyword.
 -- Assumes nothing.
-use mathlib.Core.Path.{◌≡◌, refl, sym}
+use mathlib.Core.Path.{◌≡◌, refl, sym, subst, ◌∙◌}
 use mathlib.Core.List.{List, [], ◌∷◌}
 use mathlib.Core.Bool.{Bool, true, false, cond, true≢false}
-use Prim.Native.Nat.{ℕ, ◌+◌, ◌-◌, ◌<◌, ◌≤◌}
+use Prim.Native.Nat.{ℕ, zero, suc, ◌+◌, ◌-◌, ◌<◌, ◌≤◌}
 use native.Mathlib.Omega.{arith}
 use lib.Dec.{eqb}
 use lib.ListN.{length, take, drop, get_or}
 use borrow.Author.Tests.{eq-eqb, ne_eqb, eqb-true}
-use Rattle.words.specs.Words.{blanks, word_size, words_from, small, says, among, bytes_of}
-use Rattle.words.proofs.Sizes.{over, here}
+use Rattle.std.specs.Bool.{MatchBool}
+use Rattle.std.specs.List.{AllWithin, HoldsAt, zip, position_from}
+use Rattle.std.proofs.lemmas.Slice.Zip.{length-zip, get_or-zip}
+use Rattle.std.specs.Char.{to_ascii_lowercase}
+use Rattle.std.proofs.lemmas.Bool.Decides.{nat_tests}
+use Rattle.words.specs.Lines.{Part}
+use Rattle.words.specs.Words.{small, says, bytes_of}
+use Rattle.words.proofs.Sizes.{over}
 use Rattle.words.proofs.Follow.{words-none, words-some}
+
+-- ---- the library's small letters
+pub lowercase-small : (c : ℕ) → to_ascii_lowercase c ≡ small c
+lowercase-small c = grind (arith, nat_tests)
 
 -- ---- no word but a keyword is taken for one
 unfoldable pub smalls : List ℕ → List ℕ
@@ -46,39 +56,48 @@ says-length (c ∷ w) (d ∷ k) h = go (eqb (small c) d) (says-length w k (λ e.
     go true ih = ih
     go false ih = refl
 
-module _ (w k : List ℕ) (i : ℕ) (h : i < length w) (l : length w ≡ length k) where
-  there : drop i k ≡ get_or k i 0 ∷ drop (i + 1) k
-  there = here k i (omega arith)
-
-  pub says_on : small (get_or w i 0) ≡ get_or k i 0 → says (drop i w) (drop i k) ≡ says (drop (i + 1) w) (drop (i + 1) k)
-  unfolding says
-  says_on e = rw (here w i h, there, eq-eqb (small (get_or w i 0)) (get_or k i 0) e)
-
-  pub says_off : (small (get_or w i 0) ≡ get_or k i 0 → ⊥) → says (drop i w) (drop i k) ≡ false
-  unfolding says
-  says_off e = rw (here w i h, there, ne_eqb (small (get_or w i 0)) (get_or k i 0) e)
-
-pub says-over : (w k : List ℕ) (i : ℕ) → length w ≤ i → length w ≡ length k → says (drop i w) (drop i k) ≡ true
+all_said : (w k : List ℕ) → length w ≡ length k → ((i : ℕ) → i < length w → small (get_or w i 0) ≡ get_or k i 0) → says w k ≡ true
 unfolding says
-says-over w k i h l = rw (over w i h, over k i (omega arith))
+all_said [] [] l h = refl
+all_said [] (d ∷ k) l h = absurd (omega arith)
+all_said (c ∷ w) [] l h = absurd (omega arith)
+all_said (c ∷ w) (d ∷ k) l h = rw (eq-eqb (small c) d (h 0 (omega arith))) (all_said w k (omega arith) (λ i b. h (suc i) (omega arith)))
 
--- ---- keyword by keyword, in a line s of them
-module _ (w s : List ℕ) (at a e n : ℕ) (h : a ≡ at + blanks (drop at s)) (k : e ≡ a + word_size (drop a s)) where
-  abbrev left : ℕ → ℕ
-  left i = among w (bytes_of (words_from (0 + i) false (drop i s)))
+one_off : (w k : List ℕ) (i : ℕ) → length w ≡ length k → i < length w → (small (get_or w i 0) ≡ get_or k i 0 → ⊥) → says w k ≡ false
+unfolding says
+one_off [] k i l b h = absurd (omega arith)
+one_off (c ∷ w) [] i l b h = absurd (omega arith)
+one_off (c ∷ w) (d ∷ k) zero l b h = rw (ne_eqb (small c) d h)
+one_off (c ∷ w) (d ∷ k) (suc i) l b h = go (eqb (small c) d) (one_off w k i (omega arith) (omega arith) h)
+  where
+    go : (q : Bool) → says w k ≡ false → cond q (says w k) false ≡ false
+    go true ih = ih
+    go false ih = refl
 
-  pub among_none : e ≡ a → n + left at ≡ n
-  unfolding among
-  among_none z = rw (words-none s 0 at a e h k z) (omega arith)
+-- letter by letter, the letters of both in pairs
+abbrev pub Alike : ℕ × ℕ → Type 0
+Alike p = to_ascii_lowercase p.0 ≡ p.1
 
-  pub among-found : (e ≡ a → ⊥) → says w (take (e - a) (drop a s)) ≡ true → n + left at ≡ n
-  unfolding among
-  among-found z f = rw (words-some s 0 at a e h k z, f) (omega arith)
+abbrev pub Unlike : ℕ × ℕ → Type 0
+Unlike p = to_ascii_lowercase p.0 ≡ p.1 → ⊥
 
-  pub among_on : (e ≡ a → ⊥) → says w (take (e - a) (drop a s)) ≡ false → n + left at ≡ n + 1 + left e
-  unfolding among
-  among_on z f = rw (words-some s 0 at a e h k z, f) (omega arith)
+pub says_paired : (w k : List ℕ) (r : Bool) → length w ≡ length k
+    → MatchBool r (AllWithin Alike (zip w k) 0 (length (zip w k))) ((i : ℕ) × (i < length (zip w k)) × HoldsAt Unlike (zip w k) i) → r ≡ says w k
+says_paired w k true l h = sym (all_said w k l each)
+  where
+    each : (i : ℕ) → i < length w → small (get_or w i 0) ≡ get_or k i 0
+    each i b =
+        let e = get_or-zip w k i (0, 0) b (omega arith) in
+        let n = length-zip w k in
+        sym (lowercase-small (get_or w i 0)) ∙ subst Alike e (h i (0, 0) (omega arith) (omega (arith, n)))
+says_paired w k false l h =
+    let i = h.0 in
+    let n = length-zip w k in
+    let b : i < length w = omega (arith, n, h.1) in
+    let e = get_or-zip w k i (0, 0) b (omega arith) in
+    sym (one_off w k i l b (λ a. subst Unlike e (h.2 (0, 0)) (lowercase-small (get_or w i 0) ∙ a)))
 
-pub among-over : (w s : List ℕ) (at n : ℕ) → length s ≤ at → n + among w (bytes_of (words_from (0 + at) false (drop at s))) ≡ n
-unfolding among words_from
-among-over w s at n h = rw (over s at h) (omega arith)
+-- ---- the first of the words of a line that is a keyword
+pub bytes_searched : (test : List ℕ → Bool) (ps : List Part) (i : ℕ) → position_from (λ p. test p.bytes) i ps ≡ position_from test i (bytes_of ps)
+bytes_searched test [] i = refl
+bytes_searched test (p ∷ ps) i = rw (bytes_searched test ps (i + 1))

@@ -1,6 +1,7 @@
 -- The page 'A typed sheet' of docs/RULES.md: "`#` and all behind it in its line is a remark, also directly behind a word. Words are parted
 -- by spaces and tabs and by nothing else: a comma is a byte of a word. A to Z are read as a to z."
-use Rattle.std.specs.Prelude.{List, [], ◌∷◌, Bool, true, false, cond, not, ℕ, suc, ◌+◌, eqb, ltb, take}
+use Rattle.std.specs.Prelude.{List, [], ◌∷◌, Bool, true, false, cond, not, ℕ, suc, ◌+◌, eqb, ltb, take, Option}
+use Rattle.std.specs.List.{position_from}
 use Rattle.words.specs.Lines.{Part, part}
 
 -- a space (32) or a tab (9)
@@ -52,11 +53,9 @@ says [] (d ∷ k) = false
 says (c ∷ w) [] = false
 says (c ∷ w) (d ∷ k) = cond (eqb (small c) d) (says w k) false
 
--- how many keywords stand before the one that w is; all of them where it is none
-unfoldable pub among : List ℕ → List (List ℕ) → ℕ
-unfolding says
-among w [] = 0
-among w (k ∷ ks) = cond (says w k) 0 (suc (among w ks))
+-- which of the keywords w is, counted from 0
+abbrev pub place : List ℕ → List (List ℕ) → Option ℕ
+place w ks = position_from (says w) 0 ks
 
 abbrev pub bytes_of : List Part → List (List ℕ)
 bytes_of [] = []

@@ -1,24 +1,47 @@
 // The lines and the words of a typed sheet: where they start and end, whether a word is a keyword, and the values that words stand for.
 #![tactic(auto)]
 
-ghost use Rattle.std.specs.Prelude.{◌≡◌, false, ◌+◌, ◌*◌, ◌<◌, ◌≤◌, length, take, drop};
+ghost use Rattle.std.specs.Prelude.{◌≡◌, false, ◌+◌, ◌*◌, ◌<◌, ◌≤◌, length, take, drop, not, eqb, IfSome};
+ghost use Rattle.std.specs.List.{position_from};
 ghost use Rattle.std.specs.Float.{binary64};
 ghost use Rattle.std.specs.Float.Ieee.{round, to_bits};
+ghost use Rattle.words.specs.Faults.{fault_number};
 ghost use Rattle.words.specs.Lines.{line_size, unended};
-ghost use Rattle.words.specs.Words.{blank, parting, blanks, word_size, small, says, among, bytes_of, words};
+ghost use Rattle.words.specs.Words.{blank, parting, blanks, word_size, says, place, bytes_of, words};
 ghost use Rattle.words.specs.Values.{number_of, before_point, behind_point, percent_of, hex_digit, hex_of};
 
-// A value that is read, or the number of the fault.
-#[derive(Clone, Copy)]
-pub enum Value {
-    Is(u64),
-    Bad(u32),
+// The faults of a typed sheet, in the order of their numbers, 1 to 14.
+#[derive(Clone, Copy, PartialEq, Eq, Debug)]
+pub enum Fault {
+    BeginsNoLine = 1,
+    OneTooMany,
+    NoOption,
+    GivenTwice,
+    ValueMissing,
+    NoWholeNumber,
+    NumberTooLarge,
+    NoPercentage,
+    NotHex,
+    NoMethod,
+    ChartTooLarge,
+    TooManyCharts,
+    TooManyWeights,
+    TooManyPlays,
 }
 
-fn wide(x: u8) -> u64
-    ensures { (result ≡ x) × (result < 256) }
+impl From<Fault> for u32 {
+    ghost from_gives = { λ f n. n ≡ fault_number f };
+
+    fn from(fault: Fault) -> u32 {
+        fault as u32
+    }
+}
+
+fn first_lf(s: &[u8]) -> Option<usize>
+    ensures value { result ≡ position_from (λ b. eqb b 10) 0 s.now }
+    ensures bound { IfSome result (λ n. n < length s.now) }
 {
-    x as u64
+    s.iter().position(|b| *b == b'\n')
 }
 
 // The end of the line that starts at a place: its LF, or the end of the text.
@@ -26,14 +49,50 @@ pub fn line_end(s: &[u8], at: usize) -> usize
     requires { at ≤ length s.now }
     ensures { (result ≡ at + line_size (drop at s.now)) × (result ≤ length s.now) }
 {
-    let mut i = at;
-    while i < s.len() {
-        if s[i] == b'\n' {
-            return i;
-        }
-        i += 1;
+    at + first_lf(&s[at..]).unwrap_or(s.len() - at)
+}
+
+// The lines of a text that are left: its rest, and where that starts.
+#[derive(Drop)]
+pub struct Lines<'a> {
+    at: usize,
+    rest: &'a [u8],
+    ghost in_range: { at + length rest.now ≤ 18446744073709551615 },
+}
+
+impl<'a> Lines<'a> {
+    ghost use Rattle.words.specs.Lines.{lines};
+    ghost use Rattle.words.specs.Walk.{lines_left};
+
+    pub fn new(text: &'a [u8]) -> Lines<'a>
+        ensures { lines_left result ≡ lines text.now }
+    {
+        Lines { at: 0, rest: text }
     }
-    i
+}
+
+// Each line with where it starts.
+impl<'a> Iterator for Lines<'a> {
+    ghost use Rattle.std.specs.Iterator.{YieldsFirstBy, item_count};
+    ghost use Rattle.words.specs.Walk.{lines_left, part_of};
+
+    type Item = (usize, &'a [u8]);
+
+    ghost next_gives = { YieldsFirstBy part_of lines_left };
+
+    ghost remaining = { item_count lines_left };
+
+    fn next(&mut self) -> Option<(usize, &'a [u8])> {
+        if self.rest.is_empty() {
+            return None;
+        }
+        let e = line_end(self.rest, 0);
+        let line = (self.at, &self.rest[..e]);
+        let n = self.rest.len().min(e + 1);
+        self.at += n;
+        self.rest = &self.rest[n..];
+        Some(line)
+    }
 }
 
 // How many bytes a line has without a CR that is its last byte.
@@ -53,19 +112,20 @@ pub fn size_unended(s: &[u8]) -> usize
 fn is_blank(b: u8) -> bool
     ensures { result ≡ blank b }
 {
-    if b == b' ' {
-        return true;
-    }
-    b == b'\t'
+    b == b' ' || b == b'\t'
 }
 
 fn is_parting(b: u8) -> bool
     ensures { result ≡ parting b }
 {
-    if b == b'#' {
-        return true;
-    }
-    is_blank(b)
+    b == b'#' || is_blank(b)
+}
+
+fn first_not_blank(s: &[u8]) -> Option<usize>
+    ensures value { result ≡ position_from (λ b. not (blank b)) 0 s.now }
+    ensures bound { IfSome result (λ n. n < length s.now) }
+{
+    s.iter().position(|b| !is_blank(*b))
 }
 
 // Past the blanks from a place on.
@@ -73,14 +133,14 @@ pub fn skip_blanks(s: &[u8], at: usize) -> usize
     requires { at ≤ length s.now }
     ensures { (result ≡ at + blanks (drop at s.now)) × (result ≤ length s.now) }
 {
-    let mut i = at;
-    while i < s.len() {
-        if !is_blank(s[i]) {
-            return i;
-        }
-        i += 1;
-    }
-    i
+    at + first_not_blank(&s[at..]).unwrap_or(s.len() - at)
+}
+
+fn first_parting(s: &[u8]) -> Option<usize>
+    ensures value { result ≡ position_from parting 0 s.now }
+    ensures bound { IfSome result (λ n. n < length s.now) }
+{
+    s.iter().position(|b| is_parting(*b))
 }
 
 // The end of the word that starts at a place.
@@ -88,93 +148,91 @@ pub fn word_end(s: &[u8], at: usize) -> usize
     requires { at ≤ length s.now }
     ensures { (result ≡ at + word_size (drop at s.now)) × (result ≤ length s.now) }
 {
-    let mut i = at;
-    while i < s.len() {
-        if is_parting(s[i]) {
-            return i;
-        }
-        i += 1;
-    }
-    i
-}
-
-fn small_letter(b: u8) -> u8
-    ensures { result ≡ small b }
-{
-    if b < b'A' {
-        return b;
-    }
-    if b'Z' < b {
-        return b;
-    }
-    b + 32
+    at + first_parting(&s[at..]).unwrap_or(s.len() - at)
 }
 
 // Whether a word is a keyword.
 fn is_keyword(w: &[u8], k: &[u8]) -> bool
     ensures { result ≡ says w.now k.now }
 {
-    if w.len() != k.len() {
-        return false;
-    }
-    let mut i: usize = 0;
-    while i < w.len() {
-        if small_letter(w[i]) != k[i] {
-            return false;
-        }
-        i += 1;
-    }
-    true
+    w.len() == k.len()
+        && w.iter()
+            .zip(k)
+            .all(|(b, letter)| b.to_ascii_lowercase() == *letter)
 }
 
-// How many keywords stand before the one that a word is, or how many there are; they are the words of a line.
-pub fn place_in(w: &[u8], keywords: &[u8]) -> u32
-    requires { length keywords.now ≤ 4294967295 }
-    ensures value { result ≡ among w.now (bytes_of (words 0 keywords.now)) }
-    ensures upper_bound { result ≤ length keywords.now }
-{
-    let mut n: u32 = 0;
-    let mut at: usize = 0;
-    while at < keywords.len() {
-        let a = skip_blanks(keywords, at);
-        let e = word_end(keywords, a);
-        if e == a {
-            return n;
-        }
-        if is_keyword(w, &keywords[a..e]) {
-            return n;
-        }
-        n += 1;
-        at = e;
+// The words of a line that are left: its rest, and where that starts.
+#[derive(Drop)]
+pub struct Words<'a> {
+    at: usize,
+    rest: &'a [u8],
+    ghost in_range: { at + length rest.now ≤ 18446744073709551615 },
+}
+
+impl<'a> Words<'a> {
+    ghost use Rattle.words.specs.Walk.{words_left};
+
+    // The words of a line that starts at a place.
+    pub fn new(at: usize, line: &'a [u8]) -> Words<'a>
+        requires { at + length line.now ≤ 18446744073709551615 }
+        ensures { words_left result ≡ words at line.now }
+    {
+        Words { at, rest: line }
     }
-    n
+}
+
+// Each word with where it starts.
+impl<'a> Iterator for Words<'a> {
+    ghost use Rattle.std.specs.Iterator.{YieldsFirstBy, item_count};
+    ghost use Rattle.words.specs.Walk.{words_left, part_of};
+
+    type Item = (usize, &'a [u8]);
+
+    ghost next_gives = { YieldsFirstBy part_of words_left };
+
+    ghost remaining = { item_count words_left };
+
+    fn next(&mut self) -> Option<(usize, &'a [u8])> {
+        let a = skip_blanks(self.rest, 0);
+        let e = word_end(self.rest, a);
+        let word = (self.at + a, &self.rest[a..e]);
+        self.at += e;
+        self.rest = &self.rest[e..];
+        if e == a { None } else { Some(word) }
+    }
+}
+
+// Which of the keywords a word is; they are the words of a line.
+pub fn place_in(w: &[u8], keywords: &[u8]) -> Option<usize>
+    requires { length keywords.now ≤ 4294967295 }
+    ensures { result ≡ place w.now (bytes_of (words 0 keywords.now)) }
+{
+    Words::new(0, keywords).position(|(_, k)| is_keyword(w, k))
 }
 
 // A whole number.
-pub fn number(w: &[u8]) -> Value
+pub fn number(w: &[u8]) -> Result<u64, Fault>
     ensures { result ≡ number_of w.now }
 {
-    if w.len() == 0 {
-        return Value::Bad(6);
+    if w.is_empty() {
+        return Err(Fault::NoWholeNumber);
     }
     let mut n: u64 = 0;
-    let mut i: usize = 0;
-    while i < w.len() {
-        let c = wide(w[i]);
+    for b in w {
+        let c = u64::from(*b);
         if c < 48 {
-            return Value::Bad(6);
+            return Err(Fault::NoWholeNumber);
         }
         if 57 < c {
-            return Value::Bad(6);
+            return Err(Fault::NoWholeNumber);
         }
         let m = 10 * n + (c - 48);
         if 4294967295 < m {
-            return Value::Bad(7);
+            return Err(Fault::NumberTooLarge);
         }
         n = m;
-        i += 1;
     }
-    Value::Is(n)
+    Ok(n)
 }
 
 // The bits of p / q, one f64 division of two whole numbers that an f64 holds.
@@ -186,70 +244,62 @@ pub fn ratio_bits(p: u64, q: u64) -> u64
     f64::to_bits((p as f64) / (q as f64))
 }
 
-// A percentage from the place behind its point on, where v is the number before the point.
-fn behind_point(w: &[u8], at: usize, v: u64) -> Value
-    requires at_in_bounds { at ≤ length w.now }
-    requires v_bound { v < 1000 }
-    ensures { result ≡ behind_point (drop at w.now) v 0 }
+// A percentage by its digits behind the point, where v is the number before the point.
+fn behind_point(w: &[u8], v: u64) -> Result<u64, Fault>
+    requires { v < 1000 }
+    ensures { result ≡ behind_point w.now v 0 }
 {
     let mut n = v;
     let mut k: u32 = 0;
     let mut q: u64 = 100;
-    let mut i = at;
-    while i < w.len() {
-        let c = wide(w[i]);
+    for b in w {
+        let c = u64::from(*b);
         if c < 48 {
-            return Value::Bad(8);
+            return Err(Fault::NoPercentage);
         }
         if 57 < c {
-            return Value::Bad(8);
+            return Err(Fault::NoPercentage);
         }
         if 11 < k {
-            return Value::Bad(8);
+            return Err(Fault::NoPercentage);
         }
         n = 10 * n + (c - 48);
         k += 1;
         q = 10 * q;
-        i += 1;
     }
-    Value::Is(ratio_bits(n, q))
+    Ok(ratio_bits(n, q))
 }
 
-fn before_point(w: &[u8]) -> Value
+fn before_point(w: &[u8]) -> Result<u64, Fault>
     ensures { result ≡ before_point w.now 0 }
 {
     let mut n: u64 = 0;
-    let mut i: usize = 0;
-    while i < w.len() {
-        let c = wide(w[i]);
+    for (i, b) in w.iter().enumerate() {
+        let c = u64::from(*b);
         if c == 46 {
-            return behind_point(w, i + 1, n);
+            return behind_point(&w[i + 1..], n);
         }
         if c < 48 {
-            return Value::Bad(8);
+            return Err(Fault::NoPercentage);
         }
         if 57 < c {
-            return Value::Bad(8);
+            return Err(Fault::NoPercentage);
         }
         let m = 10 * n + (c - 48);
         if 999 < m {
-            return Value::Bad(8);
+            return Err(Fault::NoPercentage);
         }
         n = m;
-        i += 1;
     }
-    Value::Is(ratio_bits(n, 100))
+    Ok(ratio_bits(n, 100))
 }
 
 // A percentage such as 97.53: the bits of the f64 nearest to its hundredth.
-pub fn percentage(w: &[u8]) -> Value
+pub fn percentage(w: &[u8]) -> Result<u64, Fault>
     ensures { result ≡ percent_of w.now }
 {
-    if w.len() == 0 {
-        return Value::Bad(8);
-    }
-    if w[0] == b'.' {
-        return Value::Bad(8);
+    if w.is_empty() || w[0] == b'.' {
+        return Err(Fault::NoPercentage);
     }
     before_point(w)
 }
@@ -258,7 +308,7 @@ pub fn percentage(w: &[u8]) -> Value
 fn hex_digit(b: u8) -> u64
     ensures { (result ≡ hex_digit b) × (result ≤ 16) }
 {
-    let c = wide(b);
+    let c = u64::from(b);
     if c < 48 {
         return 16;
     }
@@ -275,21 +325,19 @@ fn hex_digit(b: u8) -> u64
 }
 
 // Sixteen hex digits.
-pub fn hex_bits(w: &[u8]) -> Value
+pub fn hex_bits(w: &[u8]) -> Result<u64, Fault>
     ensures { result ≡ hex_of w.now }
 {
     if w.len() != 16 {
-        return Value::Bad(9);
+        return Err(Fault::NotHex);
     }
     let mut v: u64 = 0;
-    let mut i: usize = 0;
-    while i < w.len() {
-        let d = hex_digit(small_letter(w[i]));
+    for b in w {
+        let d = hex_digit(b.to_ascii_lowercase());
         if d == 16 {
-            return Value::Bad(9);
+            return Err(Fault::NotHex);
         }
         v = 16 * v + d;
-        i += 1;
     }
-    Value::Is(v)
+    Ok(v)
 }

@@ -2,37 +2,35 @@
 use mathlib.Core.Path.{sym, ap, ◌∙◌}
 use mathlib.Core.List.{[], ◌∷◌}
 use native.Mathlib.Omega.{arith}
-use Rattle.text.proofs.Appended.{nothing, followed, restated}
-use Rattle.percent.specs.declared.Percentage.TheVariants.{Has, Missing}
+use Rattle.text.proofs.Written.{nothing, followed, restated}
+use Rattle.std.specs.Prelude.{Some, None}
 use Rattle.percent.proofs.Fewest.{shortest-reads}
 use Rattle.typed_line.specs.Keywords.{acc}
 use Rattle.accuracy_text.specs.AccuracyText.{spaced, percent_text, words_by}
 use Rattle.accuracy_text.proofs.Pieces.{two, words-none, words-by}
 use Rattle.accuracy_text.proofs.put_accuracy.Goals as goal
 
-pub returns-then-not-given : goal.returns-then-not-given
+pub returns-then-not-given-clause-gained : goal.returns-then-not-given-clause-gained
 unfolding spaced
-returns-then-not-given c =
+returns-then-not-given-clause-gained c =
     let x = c.args in
-    record { appended = restated (nothing x.text.now x.at) (ap spaced (words-none x.given x.bits c.if-not-given.true)); upper_bound = omega arith }
+    restated (nothing x.text.now (omega arith)) (ap spaced (words-none x.given x.bits c.if-not-given.true))
 
-pub put_percent-requires : goal.put_percent-requires
-put_percent-requires c =
-    let r = shortest-reads c.args.bits c.in-Has.digits c.in-Has.places (sym c.percentage_of.ensures ∙ c.in-Has.is) in
-    record { at_in_bounds = omega arith; places_bound = (r.few, r.small) }
+pub put_percent-requires-clause-places_bound : goal.put_percent-requires-clause-places_bound
+put_percent-requires-clause-places_bound c =
+    let r = shortest-reads c.args.bits c.in-Some.p.digits c.in-Some.p.places (sym c.percentage_of.ensures ∙ c.in-Some.is) in
+    (r.few, r.small)
 
-pub returns-in-Has : goal.returns-in-Has
+pub returns-in-Some-clause-gained : goal.returns-in-Some-clause-gained
 unfolding words_by acc
-returns-in-Has c =
+returns-in-Some-clause-gained c =
     let x = c.args in
-    let p = c.put_word-name_end.ensures in
-    let q = c.put_percent.ensures in
-    let w = words-by x.given x.bits (Has c.in-Has.digits c.in-Has.places) c.if-not-given.false (sym c.in-Has.is ∙ c.percentage_of.ensures) in
-    record { appended = restated (followed p.appended q.appended (omega arith)) (two (acc ∷ []) (percent_text c.in-Has.digits c.in-Has.places ∷ []) ∙ ap spaced w); upper_bound = omega arith }
+    let p = c.in-Some.p in
+    let w = words-by x.given x.bits (Some p) c.if-not-given.false (sym c.in-Some.is ∙ c.percentage_of.ensures) in
+    restated (followed c.put_word.ensures.gained c.put_percent.ensures.gained) (two (acc ∷ []) (percent_text p.digits p.places ∷ []) ∙ ap spaced w)
 
-pub returns-in-Missing : goal.returns-in-Missing
-returns-in-Missing c =
+pub returns-in-None-clause-gained : goal.returns-in-None-clause-gained
+returns-in-None-clause-gained c =
     let x = c.args in
-    let p = c.put_bits.ensures in
-    let w = words-by x.given x.bits Missing c.if-not-given.false (sym c.in-Missing.is ∙ c.percentage_of.ensures) in
-    record { appended = restated p.appended (ap spaced w); upper_bound = omega arith }
+    let w = words-by x.given x.bits None c.if-not-given.false (sym c.in-None.is ∙ c.percentage_of.ensures) in
+    restated c.put_bits.ensures.gained (ap spaced w)

@@ -1,56 +1,38 @@
 -- `direct::hand` meets its contract. Assumes nothing.
-use mathlib.Core.Path.{◌≡◌, sym, ap, subst, ◌∙◌}
+use mathlib.Core.Path.{◌≡◌, sym, ap, ◌∙◌}
 use mathlib.Core.List.{[], ◌∷◌}
 use native.Mathlib.Omega.{arith}
-use lib.ListN.{take, length-set}
+use lib.ListN.{take}
 use mir.Syntax.{w32}
 use mir.ValLaws.{to_z-of_z}
+use Rattle.std.specs.Prelude.{Result}
+use Rattle.refusals.specs.declared.Refusal.{Refusal}
+use Rattle.refusals.specs.Refusal.{number_of}
+use Rattle.refusals.proofs.Numbers.{never_zero}
 use Rattle.points_left.specs.Left.{bits_of}
-use Rattle.generated.specs.Generated.{generated_of}
-use Rattle.direct.specs.Direct.{Numbered}
+use Rattle.generated.specs.Generated.{generated_of, values}
+use Rattle.score_state.specs.Answer.{answer_in, answer_of, status_of}
+use Rattle.score_state.specs.Lent.{lent}
+use Rattle.score_state.proofs.Handed.{err_handed}
 use Rattle.score_state.proofs.Lent.{handed-refused, handed-worked}
 use Rattle.direct.proofs.Handed.{told-refused, told-worked}
 use Rattle.direct.proofs.hand.Goals as goal
 
-pub returns-in-Counts : goal.returns-in-Counts
-returns-in-Counts c =
-    let r = c.in-Counts.counts in
-    let t = c.in-Counts.tried in
-    let l = c.in-Counts.left in
+pub returns-in_err-g : goal.returns-in_err-g
+returns-in_err-g c =
     let x = c.args in
-    let p = c.requires.fact_2 in
-    let e = sym (ap generated_of c.in-Counts.is) in
-    let vs = r.n320 ∷ r.n300 ∷ r.n200 ∷ r.n100 ∷ r.n50 ∷ r.misses ∷ t ∷ bits_of l ∷ [] in
-    let back = to_z-of_z w32 l (record { sfits = c.in-Counts.known_told-1-own.given.1.1.0.1 }) in
-    let b : c.bits_of.result ≡ bits_of l = c.bits_of.ensures ∙ ap bits_of back in
-    rw b
-    (record { out_after = handed-worked 8 vs (generated_of x.g) x.out.now p (omega arith) e; out_after_2 = told-worked vs x.out.now p ∙ e })
+    let f = c.in_err-g.field-0.0 in
+    let r = err_handed c.from_residual.result f c.from_residual.ensures.1 in
+    let e = sym (ap generated_of c.in_err-g.was) in record {
+      out_after = ap (λ (y : Result (Unit {0}) Refusal). lent (status_of (answer_of y)) x.out.now) r ∙ handed-refused 8 (number_of f) (generated_of x.answer) x.out.now c.requires e;
+      out_after_2 = ap (λ (y : Result (Unit {0}) Refusal). answer_in (status_of (answer_of y)) (take 8 x.out.now)) r ∙ told-refused (number_of f) (take 8 x.out.now) (never_zero f) ∙ e;
+    }
 
-pub returns-in-Refused : goal.returns-in-Refused
-returns-in-Refused c =
-    let n = c.in-Refused.n in
+pub returns : goal.returns
+returns c =
     let x = c.args in
-    let p = c.requires in
-    let k = c.in-Refused.is in
-    let e = sym (ap generated_of k) in record { out_after = handed-refused 8 n (generated_of x.g) x.out.now p.fact_2 e; out_after_2 = told-refused n (take 8 x.out.now) (subst Numbered k p.fact_1) ∙ e }
-
-pub bounds-out-1 : goal.bounds-out-1
-bounds-out-1 c = simp length-set (omega arith)
-
-pub bounds-out-2 : goal.bounds-out-2
-bounds-out-2 c = simp length-set (omega arith)
-
-pub bounds-out-3 : goal.bounds-out-3
-bounds-out-3 c = simp length-set (omega arith)
-
-pub bounds-out-4 : goal.bounds-out-4
-bounds-out-4 c = simp length-set (omega arith)
-
-pub bounds-out-5 : goal.bounds-out-5
-bounds-out-5 c = simp length-set (omega arith)
-
-pub bounds-out-6 : goal.bounds-out-6
-bounds-out-6 c = simp length-set (omega arith)
-
-pub bounds-out-7 : goal.bounds-out-7
-bounds-out-7 c = simp length-set (omega arith)
+    let g = c.in_ok-g.g in
+    let e = sym (ap generated_of c.in_ok-g.was) in
+    let back = to_z-of_z w32 g.left (record { sfits = omega arith }) in
+    let b : c.bits_of.result ≡ bits_of g.left = c.bits_of.ensures ∙ ap bits_of back in
+    rw b (record { out_after = handed-worked 8 (values g) (generated_of x.answer) x.out.now c.requires (omega arith) e; out_after_2 = told-worked (values g) x.out.now c.requires ∙ e })

@@ -12,7 +12,6 @@ use Rattle.generate_laws.specs.Generate.{scored_answer}
 use Rattle.score_state.specs.Lent.{six_counts, handed}
 use Rattle.direct.specs.Direct.{classic_in, weights_in, query_by}
 use Rattle.score_state.proofs.Lent.{handed_short}
-use Rattle.direct.proofs.Handed.{answer-numbered}
 use Rattle.direct.proofs.scored.Goals as goal
 
 pub returns-then-out-lt8 : goal.returns-then-out-lt8
@@ -25,7 +24,7 @@ pub scored_by-requires : goal.scored_by-requires
 scored_by-requires c = subst Weighting (sym c.weights_of-weights.ensures) c.requires
 
 pub hand-requires : goal.hand-requires
-hand-requires c = record { fact_1 = answer-numbered _ _ c.scored_by.result c.scored_by.ensures; fact_2 = omega arith }
+hand-requires c = omega arith
 
 -- the weights and the query that are handed over are those of these numbers
 pub returns : goal.returns

@@ -18,17 +18,17 @@ unfolding of_bits
 round_ties_even-requires c =
     let d = c.args.denominator.0 in
     let n = c.args.numerator.0 in
-    let acc = c.args.acc in
-    let t = rw (c.as_f64.ensures, c.as_f64-2.ensures) at c.if-x.true in
-    rw (c.as_f64.ensures, c.as_f64-2.ensures)
-    (record { fact_1 = above_zero_le (difference acc d n) t; fact_2 = difference_Below (product acc d) (of_int binary64 (pos n)) d n (omega arith) (product_within acc d (omega arith) c.requires.t_1 c.requires.t_2) (of-int n (omega arith)) t })
+    let acc = c.args.acc.value in
+    let t = rw (c.from.ensures, c.from-2.ensures) at c.if-x.true in
+    rw (c.from.ensures, c.from-2.ensures)
+    (record { fact_1 = above_zero_le (difference acc d n) t; fact_2 = difference_Below (product acc d) (of_int binary64 (pos n)) d n (omega arith) (product_within acc d (omega arith) c.args.acc.in_range.0 c.args.acc.in_range.1) (of-int n (omega arith)) t })
 
 pub returns-then-x : goal.returns-then-x
 unfolding target_total
-returns-then-x c = c.round_ties_even.ensures ∙ rw (c.as_f64.ensures, c.as_f64-2.ensures)
+returns-then-x c = c.round_ties_even.ensures ∙ rw (c.from.ensures, c.from-2.ensures)
 
 pub returns-else-x : goal.returns-else-x
 unfolding target_total of_bits
 returns-else-x c =
     let x = c.args in
-    not_above_rounds (difference x.acc x.denominator.0 x.numerator.0) (rw (c.as_f64.ensures, c.as_f64-2.ensures) at c.if-x.false)
+    not_above_rounds (difference x.acc.value x.denominator.0 x.numerator.0) (rw (c.from.ensures, c.from-2.ensures) at c.if-x.false)

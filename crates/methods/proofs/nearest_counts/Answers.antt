@@ -2,7 +2,7 @@
 use Prim.Native.Nat.{ℕ, ◌≤◌}
 use mathlib.Core.List.{List, [], ◌∷◌}
 use mathlib.Core.Option.{some}
-use mathlib.Core.Path.{◌≡◌, sym, ap, subst, ◌∙◌}
+use mathlib.Core.Path.{◌≡◌, refl, sym, ap, subst, ◌∙◌}
 use native.Mathlib.Nat.{le_trans}
 use native.Mathlib.Omega.{arith}
 use lib.IntN.{sub_ℕ}
@@ -24,7 +24,12 @@ use Rattle.inspect.specs.Target.{target}
 use Rattle.inspect.proofs.Checked.{total_within}
 use Rattle.nearest_laws.specs.Nearest.{nearest}
 use Rattle.nearest_laws.proofs.Weighs.{weighting-light}
-use Rattle.nearest.specs.Outcome.{found_of, outcome_of}
+use Rattle.refusals.specs.declared.Refusal.{Refusal}
+use Rattle.refusals.specs.Refusal.{number_of}
+use Rattle.score_state.specs.Answer.{refused}
+use Rattle.score_state.proofs.Handed.{err_handed}
+use Rattle.generated.specs.Generated.{generated_of}
+use Rattle.nearest.specs.Outcome.{found_of}
 use Rattle.generate_laws.specs.Generate.{target_of}
 use Rattle.generate_laws.proofs.Left.{target_within}
 use Rattle.generate_laws.proofs.Answered.{found_within, nearest-found, nearest-none}
@@ -35,7 +40,7 @@ use Rattle.methods.proofs.nearest_counts.Goals as goal
 pub target_of-target-requires : goal.target_of-target-requires
 target_of-target-requires c =
     let light = weighting-light c.args.weights c.requires.weighting in
-    record { t_1 = c.requires.t_1; t_2 = c.requires.t_2; w_le_most_weight = (omega arith, omega arith) }
+    (omega arith, omega arith)
 
 pub nearest-requires : goal.nearest-requires
 nearest-requires c =
@@ -81,44 +86,45 @@ pub points_of-points-requires : goal.points_of-points-requires
 points_of-points-requires c =
     let x = c.args in
     let p = c.requires in
-    let e = target_is x.weights x.q x.acc c.total_hits-total.result.0 c.target_of-target.result.0 c.total_hits-total.ensures.0 c.target_of-target.ensures.0 in
-    let f = sym (ap outcome_of c.in-Found.is) ∙ c.nearest.ensures in
+    let e = target_is x.weights x.q x.acc.value c.total_hits-total.result.0 c.target_of-target.result.0 c.total_hits-total.ensures.0 c.target_of-target.ensures.0 in
+    let f = c.in_ok-split.ensures.outcome in
     record {
       fact_1 = weighting-light x.weights p.weighting;
       fact_2 = subst Capped (sym c.of-counts.ensures)
           (within_cap _ _ _ _ _ _
-          (within x.weights x.q x.acc p.domain p.t_1 p.t_2 p.weighting c.target_of-target.result.0 c.remain-remain.result.0 c.misses-missed.result.0 e c.remain-remain.ensures.0 c.misses-missed.ensures (found_of c.in-Found.split) f).0
-          (missed x.weights x.q x.acc p.domain p.t_1 p.t_2 p.weighting c.target_of-target.result.0 c.remain-remain.result.0 c.misses-missed.result.0 e c.remain-remain.ensures.0 c.misses-missed.ensures (found_of c.in-Found.split) f));
+          (within x.weights x.q x.acc.value p.domain x.acc.in_range.0 x.acc.in_range.1 p.weighting c.target_of-target.result.0 c.remain-remain.result.0 c.misses-missed.result.0 e c.remain-remain.ensures.0 c.misses-missed.ensures (found_of c.in_ok-split.split) f).0
+          (missed x.weights x.q x.acc.value p.domain x.acc.in_range.0 x.acc.in_range.1 p.weighting c.target_of-target.result.0 c.remain-remain.result.0 c.misses-missed.result.0 e c.remain-remain.ensures.0 c.misses-missed.ensures (found_of c.in_ok-split.split) f));
     }
 
 pub left_of-requires : goal.left_of-requires
 left_of-requires c =
     let x = c.args in
     let p = c.requires in
-    let e = target_is x.weights x.q x.acc c.total_hits-total.result.0 c.target_of-target.result.0 c.total_hits-total.ensures.0 c.target_of-target.ensures.0 in
-    let f = sym (ap outcome_of c.in-Found.is) ∙ c.nearest.ensures in
-    let k : c.points_of-points.result.0 ≡ points (weights_of x.weights) (found_of c.in-Found.split).counts = rw c.of-counts.ensures at c.points_of-points.ensures in
+    let e = target_is x.weights x.q x.acc.value c.total_hits-total.result.0 c.target_of-target.result.0 c.total_hits-total.ensures.0 c.target_of-target.ensures.0 in
+    let f = c.in_ok-split.ensures.outcome in
+    let k : c.points_of-points.result.0 ≡ points (weights_of x.weights) (found_of c.in_ok-split.split).counts = rw c.of-counts.ensures at c.points_of-points.ensures in
     let l : c.points_of-points.result.0 ≤ most31 =
-    omega (arith, (within x.weights x.q x.acc p.domain p.t_1 p.t_2 p.weighting c.target_of-target.result.0 c.remain-remain.result.0 c.misses-missed.result.0 e c.remain-remain.ensures.0 c.misses-missed.ensures (found_of c.in-Found.split) f).1) in
-    let t = aimed x.weights x.q x.acc p.domain p.t_1 p.t_2 p.weighting c.target_of-target.result.0 c.remain-remain.result.0 c.misses-missed.result.0 e c.remain-remain.ensures.0 c.misses-missed.ensures (found_of c.in-Found.split) f in
+    omega (arith, (within x.weights x.q x.acc.value p.domain x.acc.in_range.0 x.acc.in_range.1 p.weighting c.target_of-target.result.0 c.remain-remain.result.0 c.misses-missed.result.0 e c.remain-remain.ensures.0 c.misses-missed.ensures (found_of c.in_ok-split.split) f).1) in
+    let t = aimed x.weights x.q x.acc.value p.domain x.acc.in_range.0 x.acc.in_range.1 p.weighting c.target_of-target.result.0 c.remain-remain.result.0 c.misses-missed.result.0 e c.remain-remain.ensures.0 c.misses-missed.ensures (found_of c.in_ok-split.split) f in
     search rules
 
-pub returns-in-Found : goal.returns-in-Found
-returns-in-Found c =
+pub returns : goal.returns
+returns c =
     let x = c.args in
-    let p = c.requires in
-    let e = target_is x.weights x.q x.acc c.total_hits-total.result.0 c.target_of-target.result.0 c.total_hits-total.ensures.0 c.target_of-target.ensures.0 in
-    let f = sym (ap outcome_of c.in-Found.is) ∙ c.nearest.ensures in
+    let e = target_is x.weights x.q x.acc.value c.total_hits-total.result.0 c.target_of-target.result.0 c.total_hits-total.ensures.0 c.target_of-target.ensures.0 in
     rw (c.of-counts.ensures, to_z-of_z w32 c.left_of.result (record { sfits = c.left_of.type_inv }))
-    (nearest-found (weights_of x.weights) (inspect_of x.q) x.acc c.target_of-target.result.0 c.remain-remain.result.0 c.misses-missed.result.0
+    (nearest-found (weights_of x.weights) (inspect_of x.q) x.acc.value c.target_of-target.result.0 c.remain-remain.result.0 c.misses-missed.result.0
     e c.remain-remain.ensures.0 c.misses-missed.ensures.0
-    (found_of c.in-Found.split) c.left_of.result f
+    (found_of c.in_ok-split.split) c.left_of.result c.in_ok-split.ensures.outcome
     (c.left_of.ensures ∙ ap (sub_ℕ c.target_of-target.result.0) (rw c.of-counts.ensures at c.points_of-points.ensures)))
 
-pub returns-in-NoSplit : goal.returns-in-NoSplit
-returns-in-NoSplit c =
+pub returns-in_err-split : goal.returns-in_err-split
+returns-in_err-split c =
     let x = c.args in
-    nearest-none (weights_of x.weights) (inspect_of x.q) x.acc c.target_of-target.result.0 c.remain-remain.result.0 c.misses-missed.result.0
-    (target_is x.weights x.q x.acc c.total_hits-total.result.0 c.target_of-target.result.0 c.total_hits-total.ensures.0 c.target_of-target.ensures.0)
-    c.remain-remain.ensures.0 c.misses-missed.ensures.0
-    (sym (ap outcome_of c.in-NoSplit.is) ∙ c.nearest.ensures)
+    let f = c.in_err-split.field-0.0 in
+    let no = c.in_err-split.ensures in
+    ap generated_of (err_handed c.from_residual.result f c.from_residual.ensures.1)
+    ∙ ap (λ (r : Refusal). refused (number_of r)) (no.refusal f refl)
+    ∙ nearest-none (weights_of x.weights) (inspect_of x.q) x.acc.value c.target_of-target.result.0 c.remain-remain.result.0 c.misses-missed.result.0
+    (target_is x.weights x.q x.acc.value c.total_hits-total.result.0 c.target_of-target.result.0 c.total_hits-total.ensures.0 c.target_of-target.ensures.0)
+    c.remain-remain.ensures.0 c.misses-missed.ensures.0 no.outcome

@@ -11,10 +11,10 @@ use Rattle.score_state.specs.declared.Weights.{Weights}
 use Rattle.inspect.specs.Presence.{unwrap_or_zero}
 use Rattle.nearest_laws.specs.Nearest.{fold, found}
 use Rattle.nearest.specs.Walked.{walked_of}
-use Rattle.nearest.specs.Outcome.{Ask}
+use Rattle.nearest.specs.Outcome.{six_of, Ask}
 use Rattle.nearest.specs.declared.Five.{Five}
 use Rattle.nearest.proofs.Known.{folded_is}
-use Rattle.nearest.proofs.Asked.{six_of, falls}
+use Rattle.nearest.proofs.Asked.{falls}
 use Rattle.nearest.proofs.all_missing.Goals as goal
 
 abbrev five : List (Option ℕ)

@@ -5,7 +5,7 @@ use native.Mathlib.Nat.{pow-suc}
 use native.Mathlib.Numerals.{add-one}
 use native.Mathlib.Omega.{arith}
 use Rattle.percent.specs.Percent.{percent_from, shortest}
-use Rattle.percent.specs.declared.Percentage.TheVariants.{Has, Missing}
+use Rattle.std.specs.Prelude.{Some, None}
 use Rattle.percent.proofs.Fewest.{from_here}
 use Rattle.percent.proofs.Found.{ten_to}
 use Rattle.percent.proofs.percentage_of.Goals as goal
@@ -14,10 +14,10 @@ pub loop-k-init : goal.loop-k-init
 unfolding shortest
 loop-k-init c = (omega arith, refl, refl)
 
-pub returns-in-Has : goal.returns-in-Has
-returns-in-Has c =
+pub returns-in-Some : goal.returns-in-Some
+returns-in-Some c =
     let l = c.loop-k in
-    sym (from_here l.k c.args.bits (Has c.in-Has.n c.in-Has.places) (omega arith) (sym c.percentage_with.ensures ∙ c.in-Has.is)) ∙ l.invariant.2
+    sym (from_here l.k c.args.bits (Some c.in-Some.found) (omega arith) (sym c.percentage_with.ensures ∙ c.in-Some.is)) ∙ l.invariant.2
 
 pub overflow_mul-q : goal.overflow_mul-q
 overflow_mul-q c =
@@ -28,7 +28,7 @@ pub loop-k-preserved : goal.loop-k-preserved
 loop-k-preserved c =
     let l = c.loop-k in
     let p : 10 ^ (l.k + 1) ≡ 10 ^ l.k * 10 = rw (add-one l.k) (pow-suc 10 l.k) in
-    (omega arith, omega arith, sym (from_here l.k c.args.bits Missing (omega arith) (sym c.percentage_with.ensures ∙ c.in_default.is)) ∙ l.invariant.2)
+    (omega arith, omega arith, sym (from_here l.k c.args.bits None (omega arith) (sym c.percentage_with.ensures ∙ c.in_default.is)) ∙ l.invariant.2)
 
 pub returns : goal.returns
 unfolding percent_from

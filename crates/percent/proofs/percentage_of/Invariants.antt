@@ -5,6 +5,3 @@ use Rattle.percent.proofs.percentage_of.Given as goal
 
 abbrev pub invariant-loop-k : goal.invariant-loop-k
 invariant-loop-k l = (l.k ≤ 13) × (l.q ≡ 100 * 10 ^ l.k) × (percent_from (13 - l.k) l.k l.bits ≡ shortest l.bits)
-
-abbrev pub decreases-loop-k : goal.decreases-loop-k
-decreases-loop-k l = 13 - l.k

@@ -1,5 +1,4 @@
 -- `percent::percentage_with` meets its contract. Assumes nothing.
-use mathlib.Core.Bool.{false}
 use mathlib.Core.Path.{sym, ◌∙◌, subst}
 use native.Mathlib.Omega.{arith}
 use lib.Dec.{T}

@@ -3,7 +3,4 @@ use Rattle.plan.proofs.Missing.{first_step, first-none}
 use Rattle.plan.proofs.heaviest.Goals as goal
 
 pub returns : goal.returns
-returns c =
-    λ g.
-    simp (first_step, first-none)
-    (rw (c.pick.ensures, c.pick-n300.ensures, c.pick-n200.ensures, c.pick-n100.ensures, c.pick-n50.ensures))
+returns c = λ g. simp (first_step, first-none) c.last_missing.ensures

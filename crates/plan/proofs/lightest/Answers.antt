@@ -3,7 +3,4 @@ use Rattle.plan.proofs.Missing.{last_step, last_none}
 use Rattle.plan.proofs.lightest.Goals as goal
 
 pub returns : goal.returns
-returns c =
-    λ g.
-    simp (last_step, last_none)
-    (rw (c.pick.ensures, c.pick-n100.ensures, c.pick-n200.ensures, c.pick-n300.ensures, c.pick-n320.ensures))
+returns c = λ g. simp (last_step, last_none) c.last_missing.ensures

@@ -1,57 +1,54 @@
 -- `relay`: the checks, the pool and its split, and what is written of it.
-use Prim.Native.Nat.{ℕ, ◌<◌, ◌≤◌}
-use mathlib.Core.Path.{◌≡◌, sym, ap, ◌∙◌}
+use Prim.Native.Nat.{◌<◌}
+use mathlib.Core.Path.{sym, ap, ◌∙◌}
 use native.Mathlib.Omega.{arith}
 use lib.ListN.{length, length-set}
+use Rattle.refusals.specs.Refusal.{number_of}
+use Rattle.refusals.proofs.Numbers.{never_zero}
+use Rattle.score_state.specs.Answer.{status_of, answer_of}
+use Rattle.score_state.specs.Lent.{lent}
+use Rattle.score_state.proofs.Handed.{err_handed}
 use Rattle.inspect.specs.Inspect.{acc_of}
 use Rattle.inspect.proofs.Checked.{in_range}
 use Rattle.nearest.specs.Outcome.{found_of}
 use Rattle.relay_laws.specs.Plays.{plays_of}
-use Rattle.relay_laws.specs.Checks.{relay_stop}
-use Rattle.relay_laws.specs.Relay.{pooled_split}
-use Rattle.relay_laws.proofs.Checked.{Passed, passed}
-use Rattle.relay.proofs.Answered.{stopped, without_acc, worked, pool_split, numbers-written}
+use Rattle.relay.proofs.Answered.{cleared, stopped, without_acc, worked, pool_split, numbers-written}
 use Rattle.relay.proofs.relay.Goals as goal
 
--- no check stops it
-goes : {n s : ℕ} → n ≡ s → n ≤ 0 → s ≡ 0
-goes e h = omega arith
-
-pub returns-then-stop-gt0 : goal.returns-then-stop-gt0
-returns-then-stop-gt0 c =
+pub returns-in_err-check-clause-equation : goal.returns-in_err-check-clause-equation
+returns-in_err-check-clause-equation c =
     let x = c.args in
-    let n = c.stop_of-stop.result in
-    record { equation = stopped x.classic (acc_of x.acc) x.plays.now x.out.now n c.stop_of-stop.ensures c.if-stop-gt0.true; relayed = λ z. absurd (omega arith) }
+    let f = c.in_err-check.field-0.0 in
+    ap (λ r. lent (status_of (answer_of r)) x.out.now) (err_handed c.from_residual.result f c.from_residual.ensures.1)
+    ∙ stopped x.classic (acc_of x.acc) x.plays.now x.out.now (number_of f) c.in_err-check.ensures (never_zero f)
 
-pub split_of-split-requires : goal.split_of-split-requires
-split_of-split-requires c =
-    let a = in_range _ (rw (ap acc_of c.in-Given.is) at (passed (acc_of c.args.acc) c.args.plays.now (length c.args.out.now) (goes c.stop_of-stop.ensures (omega arith))).inside) in
-    record { t_1 = a.0; t_2 = a.1; total_le_most_pooled_hits = (c.pool_of.ensures.total_value.1, c.pool_of.ensures.remain_value.1) }
-
-pub deal_all-requires : goal.deal_all-requires
-deal_all-requires c = record { playable = (passed (acc_of c.args.acc) c.args.plays.now (length c.args.out.now) (goes c.stop_of-stop.ensures (omega arith))).playable; plays_in_bounds = rw length-set (passed (acc_of c.args.acc) c.args.plays.now (length c.args.out.now) (goes c.stop_of-stop.ensures (omega arith))).fits }
-
-pub returns-in-Given : goal.returns-in-Given
-returns-in-Given c =
+pub returns-in_default-clause-equation : goal.returns-in_default-clause-equation
+returns-in_default-clause-equation c =
     let x = c.args in
-    let r : 0 < length x.out.now = omega (arith, (passed (acc_of c.args.acc) c.args.plays.now (length c.args.out.now) (goes c.stop_of-stop.ensures (omega arith))).fits) in
-    let w =
-    worked x.classic (acc_of x.acc) x.plays.now x.out.now (goes c.stop_of-stop.ensures (omega arith)) c.in-Given.x c.deal_all.new.out
-    (ap acc_of c.in-Given.is)
-    (c.deal_all.ensures
-    ∙ numbers-written x.classic c.in-Given.x (plays_of x.plays.now) x.out.now (found_of c.split_of-split.result) (pool_split x.classic c.in-Given.x (plays_of x.plays.now) (found_of c.split_of-split.result) c.pool_of.result.total.0 c.pool_of.result.remain.0 c.split_of-split.ensures c.pool_of.ensures.total_value.0 c.pool_of.ensures.remain_value.0) r) in
-    record { equation = w.0; relayed = λ z. w.1 }
+    without_acc x.classic (acc_of x.acc) x.plays.now x.out.now (sym c.in_ok-check.ensures) (ap acc_of c.in_default.is)
 
-pub returns-in-Absent : goal.returns-in-Absent
-returns-in-Absent c =
-    let x = c.args in
-    record { equation = without_acc x.classic (acc_of x.acc) x.plays.now x.out.now (goes c.stop_of-stop.ensures (omega arith)) (ap acc_of c.in-Absent.is); relayed = λ z. absurd (omega arith) }
+pub invariant_of-plays : goal.invariant_of-plays
+invariant_of-plays c = let p = cleared c.in_ok-check.ensures in record { playable = p.playable; few = p.few }
 
-pub pool_of-requires : goal.pool_of-requires
-pool_of-requires c = record { playable = (passed (acc_of c.args.acc) c.args.plays.now (length c.args.out.now) (goes c.stop_of-stop.ensures (omega arith))).playable; plays_bound = (passed (acc_of c.args.acc) c.args.plays.now (length c.args.out.now) (goes c.stop_of-stop.ensures (omega arith))).few }
+pub invariant_of-split : goal.invariant_of-split
+invariant_of-split c = record { in_range = in_range _ (rw (ap acc_of c.in-Given.is) at (cleared c.in_ok-check.ensures).inside) }
 
 pub bounds-out-0 : goal.bounds-out-0
-bounds-out-0 c = omega (arith, (passed (acc_of c.args.acc) c.args.plays.now (length c.args.out.now) (goes c.stop_of-stop.ensures (omega arith))).fits)
+bounds-out-0 c = omega (arith, (cleared c.in_ok-check.ensures).fits)
 
-pub shape_of-out : goal.shape_of-out
-shape_of-out c = omega (arith, length-set c.args.out.now 0 c.split_of-split.result.tried)
+pub deal_all-requires : goal.deal_all-requires
+deal_all-requires c = rw length-set (cleared c.in_ok-check.ensures).fits
+
+pub returns : goal.returns
+returns c =
+    let x = c.args in
+    let value = c.in-Given.value in
+    let ps = plays_of x.plays.now in
+    let pool = c.of.ensures in
+    let room : 0 < length x.out.now = omega (arith, (cleared c.in_ok-check.ensures).fits) in
+    let split = pool_split x.classic value ps (found_of c.split-split.result) c.of.result.total.0 c.of.result.remain.0 c.split-split.ensures pool.total_value.0 pool.remain_value.0 in
+    let w =
+    worked x.classic (acc_of x.acc) x.plays.now x.out.now (sym c.in_ok-check.ensures) value c.deal_all.new.out
+    (ap acc_of c.in-Given.is)
+    (c.deal_all.ensures ∙ numbers-written x.classic value ps x.out.now (found_of c.split-split.result) split room) in
+    record { equation = w.0; relayed = λ z. w.1 }

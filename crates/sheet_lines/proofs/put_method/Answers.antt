@@ -1,28 +1,24 @@
 -- `sheet_lines::put_method` meets its contract. Assumes nothing.
 use native.Mathlib.Omega.{arith}
-use borrow.Author.Tests.{eq-eqb, ne_eqb}
+use borrow.Author.Tests.{ne_eqb}
 use Rattle.typed_line.specs.Keywords.{ignore, fast, closest, nearest}
 use Rattle.sheet_lines.specs.Lines.{method_word}
 use Rattle.sheet_lines.proofs.put_method.Goals as goal
 
-pub returns-then-method-eq0 : goal.returns-then-method-eq0
+pub returns-in-0-clause-gained : goal.returns-in-0-clause-gained
 unfolding method_word ignore
-returns-then-method-eq0 c = record { appended = rw (eq-eqb c.args.method 0 c.if-method-eq0.true) c.put_word.ensures.appended; upper_bound = omega arith }
+returns-in-0-clause-gained c = rw c.in-0.is c.put_word.ensures.gained
 
-pub returns-then-method-eq1 : goal.returns-then-method-eq1
+pub returns-in-1-clause-gained : goal.returns-in-1-clause-gained
 unfolding method_word fast
-returns-then-method-eq1 c =
-    let m = c.args.method in
-    record { appended = rw (ne_eqb m 0 c.if-method-eq0.false, eq-eqb m 1 c.if-method-eq1.true) c.put_word-then-method-eq1.ensures.appended; upper_bound = omega arith }
+returns-in-1-clause-gained c = rw c.in-1.is c.put_word-in-1.ensures.gained
 
-pub returns-then-method-eq2 : goal.returns-then-method-eq2
+pub returns-in-2-clause-gained : goal.returns-in-2-clause-gained
 unfolding method_word closest
-returns-then-method-eq2 c =
-    let m = c.args.method in
-    record { appended = rw (ne_eqb m 0 c.if-method-eq0.false, ne_eqb m 1 c.if-method-eq1.false, eq-eqb m 2 c.if-method-eq2.true) c.put_word-then-method-eq2.ensures.appended; upper_bound = omega arith }
+returns-in-2-clause-gained c = rw c.in-2.is c.put_word-in-2.ensures.gained
 
-pub returns : goal.returns
+pub returns-in_default-clause-gained : goal.returns-in_default-clause-gained
 unfolding method_word nearest
-returns c =
+returns-in_default-clause-gained c =
     let m = c.args.method in
-    record { appended = rw (ne_eqb m 0 c.if-method-eq0.false, ne_eqb m 1 c.if-method-eq1.false, ne_eqb m 2 c.if-method-eq2.false) c.put_word-2.ensures.appended; upper_bound = omega arith }
+    rw (ne_eqb m 0 (λ z. omega arith), ne_eqb m 1 (λ z. omega arith), ne_eqb m 2 (λ z. omega arith)) c.put_word-in_default.ensures.gained

@@ -1,42 +1,30 @@
--- `fill_strides`: the checks in their order, then the rows.
-use mathlib.Core.Path.{sym, ◌∙◌}
-use mathlib.Core.Bool.{true≢false}
-use native.Mathlib.Omega.{arith}
-use Rattle.score_state.specs.Points.{weights_of}
-use Rattle.nearest_laws.proofs.Weighs.{weighting, weighed}
-use Rattle.stride_table.proofs.Table.{bad_weights, short_buffer, filled, refused_by, answers_table}
+-- `fill_strides`: the standard sets are weightings, and their table is the constant one.
+use mathlib.Core.Bool.{Bool, true, false, true≢false}
+use mathlib.Core.Path.{◌≡◌, refl, sym, ap, ◌∙◌}
+use mathlib.Core.List.{List}
+use Prim.Native.Nat.{ℕ}
+use lib.ListN.{take}
+use Rattle.score_state.specs.Points.{weights_of, standard}
+use Rattle.nearest_laws.specs.Nearest.{standard-weighting, weighs}
+use Rattle.nearest_laws.proofs.Weighs.{weighed}
+use Rattle.stride_table.proofs.Table.{standard-table}
 use Rattle.stride_table.proofs.fill_strides.Goals as goal
+use Rattle.stride_table.proofs.fill_strides.Goals.{then-not-is_weighting-via-then-not-is_weighting, then-not-is_weighting-via-else-not-is_weighting+then-not-is_weighting-2}
 
-pub returns-then-not-is_weighting : goal.returns-then-not-is_weighting
-returns-then-not-is_weighting c =
-    let x = c.args in
-    let ws = weights_of x.first in
-    let vs = weights_of x.second in
-    let bad = sym c.is_weighting.ensures ∙ c.if-not-is_weighting.true in
-    let a = refused_by ws vs x.out.now 18 (omega arith) (bad_weights ws vs _ (λ h. true≢false (sym (weighed ws h.0) ∙ bad))) in record { status = a.0; numbers = a.1.0; standard = a.1.1 }
+-- a standard set is not refused
+stands : (classic : Bool) (ws : List ℕ) (b : Bool) → b ≡ weighs ws → b ≡ false → ws ≡ standard classic → ⊥
+stands classic ws b e f h = true≢false (sym (weighed (standard classic) (standard-weighting classic)) ∙ ap weighs (sym h) ∙ sym e ∙ f)
 
-pub returns-then-not-is_weighting-2 : goal.returns-then-not-is_weighting-2
-returns-then-not-is_weighting-2 c =
+pub returns-then-not-is_weighting-clause-standard : goal.returns-then-not-is_weighting-clause-standard
+returns-then-not-is_weighting-clause-standard c e f h =
     let x = c.args in
-    let ws = weights_of x.first in
-    let vs = weights_of x.second in
-    let bad = sym c.is_weighting-2.ensures ∙ c.if-not-is_weighting-2.true in
-    let a = refused_by ws vs x.out.now 18 (omega arith) (bad_weights ws vs _ (λ h. true≢false (sym (weighed vs h.1) ∙ bad))) in record { status = a.0; numbers = a.1.0; standard = a.1.1 }
+    elim c.then-not-is_weighting.branch [
+      | then-not-is_weighting-via-then-not-is_weighting w ↦ absurd (stands false (weights_of x.first) _ c.is_weighting.ensures w.if-not-is_weighting.true e)
+      | then-not-is_weighting-via-else-not-is_weighting+then-not-is_weighting-2 w ↦
+          absurd (stands true (weights_of x.second) _ w.is_weighting-else-not-is_weighting.ensures w.if-not-is_weighting-2.true f)
+    ]
 
-pub returns-then-out-lt320 : goal.returns-then-out-lt320
-returns-then-out-lt320 c =
+pub returns-clause-standard : goal.returns-clause-standard
+returns-clause-standard c e f h =
     let x = c.args in
-    let ws = weights_of x.first in
-    let vs = weights_of x.second in
-    let w = weighting ws (sym c.is_weighting.ensures ∙ c.if-not-is_weighting.false) in
-    let v = weighting vs (sym c.is_weighting-2.ensures ∙ c.if-not-is_weighting-2.false) in
-    let a = refused_by ws vs x.out.now 5 (omega arith) (short_buffer ws vs _ w v (omega arith)) in record { status = a.0; numbers = a.1.0; standard = a.1.1 }
-
-pub returns : goal.returns
-returns c =
-    let x = c.args in
-    let ws = weights_of x.first in
-    let vs = weights_of x.second in
-    let w = weighting ws (sym c.is_weighting.ensures ∙ c.if-not-is_weighting.false) in
-    let v = weighting vs (sym c.is_weighting-2.ensures ∙ c.if-not-is_weighting-2.false) in
-    let a = answers_table ws vs x.out.now _ (filled ws vs _ w v (omega arith)) c.put_rows.ensures in record { status = a.0; numbers = a.1.0; standard = a.1.1 }
+    (refl, ap (take 320) c.put_rows.ensures ∙ standard-table (weights_of x.first) (weights_of x.second) x.out.now e f)

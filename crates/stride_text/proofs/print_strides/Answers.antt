@@ -1,30 +1,9 @@
--- `print_strides`: the length, then the weights, then the lines.
-use mathlib.Core.Path.{refl}
-use native.Mathlib.Omega.{arith}
-use lib.ListN.{replicate}
-use Rattle.text.proofs.Appended.{restated, counted, front, beyond}
-use Rattle.stride_text.proofs.Printed.{other_length, bad_weights, good-weights}
+-- `print_strides` meets its contract: its text began in the lent buffer. Assumes nothing.
+use Rattle.text.proofs.Written.{front, beyond}
 use Rattle.stride_text.proofs.print_strides.Goals as goal
 
-pub returns-then-weights-ne40 : goal.returns-then-weights-ne40
-returns-then-weights-ne40 c =
-    let p = restated c.put_refused.ensures (other_length c.args.weights.now c.if-weights-ne40.true) in
-    record { counted = counted p; printed = front p; beyond = beyond p }
+pub returns-clause-printed : goal.returns-clause-printed
+returns-clause-printed c = let text = c.new-text.ensures in front c.put_strides.ensures text.empty text.bytes c.len.ensures
 
-pub returns-then-status-ne0 : goal.returns-then-status-ne0
-returns-then-status-ne0 c =
-    let s = c.args.weights.now in
-    let w = c.read_weights-first in
-    let v = c.read_weights-second in
-    let n = c.fill_strides-status in
-    let p = restated c.put_refused-then-status-ne0.ensures (bad_weights s (omega arith) w.result v.result (replicate 320 0) n.result w.ensures v.ensures refl n.ensures.status c.if-status-ne0.true) in
-    record { counted = counted p; printed = front p; beyond = beyond p }
-
-pub returns : goal.returns
-returns c =
-    let s = c.args.weights.now in
-    let w = c.read_weights-first in
-    let v = c.read_weights-second in
-    let n = c.fill_strides-status in
-    let p = restated c.put_lines.ensures (good-weights s (omega arith) w.result v.result (replicate 320 0) n.result w.ensures v.ensures refl n.ensures.status _ c.if-status-ne0.false n.ensures.numbers) in
-    record { counted = counted p; printed = front p; beyond = beyond p }
+pub returns-clause-beyond : goal.returns-clause-beyond
+returns-clause-beyond c = let text = c.new-text.ensures in beyond c.put_strides.ensures text.empty text.bytes c.len.ensures

@@ -1,13 +1,8 @@
-use mathlib.Core.Path.{◌≡◌}
-use Prim.Native.Nat.{◌+◌, ◌-◌, ◌*◌, ◌≤◌}
-use lib.ListN.{length}
+use Prim.Native.Nat.{◌+◌, ◌*◌, ◌≤◌}
 use Rattle.lists.specs.Lists.{joined}
-use Rattle.text.specs.Text.{Appended}
+use Rattle.text.specs.Written.{Gained}
 use Rattle.stride_text.proofs.Lines.{more}
 use Rattle.stride_text.proofs.put_line.Given as goal
 
-abbrev pub invariant-loop-k : goal.invariant-loop-k
-invariant-loop-k l = (1 ≤ l.k) × (l.k ≤ length l.numbers) × (length l.text ≡ length l.initial.text) × (l.end + 1 ≤ l.at + 11 * l.k) × Appended l.initial.text l.initial.end l.text l.end (joined (more l.numbers) (l.k - 1))
-
-abbrev pub decreases-loop-k : goal.decreases-loop-k
-decreases-loop-k l = length l.numbers - l.k
+abbrev pub invariant-loop-n : goal.invariant-loop-n
+invariant-loop-n l = (l.text.len ≤ l.initial.text.len + 11 * l.n-index) × Gained l.initial.text l.text (joined (more l.numbers) l.n-index)

@@ -1,26 +1,29 @@
 -- `table::print_sheet` meets its contract. Assumes nothing.
+use borrow.Author.Rules.{rules}
 use native.Mathlib.Omega.{arith}
 use Rattle.sheets.proofs.Laws.{queries_fit}
-use Rattle.text.proofs.Appended.{restated, counted, front, beyond}
-use Rattle.table.specs.Table.{answer_text, room}
+use Rattle.text.proofs.Written.{restated, front, beyond}
+use Rattle.text.specs.Written.{Gained}
+use Rattle.table.specs.Table.{answer_text, room, printed_of}
 use Rattle.table.proofs.Printed.{by_case}
 use Rattle.table.proofs.print_sheet.Goals as goal
+use Rattle.table.proofs.print_sheet.Goals.{in-Worked, in-Refused}
 
-pub put_table-requires : goal.put_table-requires
-put_table-requires c =
+pub put_table-requires-clause-n_bound : goal.put_table-requires-clause-n_bound
+put_table-requires-clause-n_bound c =
     let fits = queries_fit _ _ _ _ _ _ c.in-Worked.is c.work_sheet.ensures.equation in
-    record { in_bounds = omega arith; n_bound = (omega arith, fits) }
+    (omega arith, fits)
 
-pub returns-in-Worked : goal.returns-in-Worked
+pub returns : goal.returns
 unfolding answer_text room
-returns-in-Worked c =
+returns c =
     let w = c.work_sheet in
-    let p = restated c.put_table.ensures (by_case c.args.sheet.now w.new.out w.result _ c.in-Worked.is w.ensures.equation) in
-    record { counted = counted p; printed = front p; beyond = beyond p }
-
-pub returns-in-Refused : goal.returns-in-Refused
-unfolding answer_text room
-returns-in-Refused c =
-    let w = c.work_sheet in
-    let p = restated c.put_refused.ensures (by_case c.args.sheet.now w.new.out w.result _ c.in-Refused.is w.ensures.equation) in
-    record { counted = counted p; printed = front p; beyond = beyond p }
+    let text = c.match-work_sheet in
+    let p : Gained c.new-text.result text.text (printed_of c.args.sheet.now) =
+    elim text.branch
+    [ in-Worked a ↦ rw a.text-is (restated a.put_table.ensures (by_case c.args.sheet.now w.new.out w.result _ a.in-Worked.is w.ensures.equation))
+    | in-Refused a ↦ rw a.text-is (restated a.put_refused.ensures (by_case c.args.sheet.now w.new.out w.result _ a.in-Refused.is w.ensures.equation)) ] in
+    record {
+      counted = search rules;
+      printed = front p c.new-text.ensures.empty c.new-text.ensures.bytes c.len.ensures;
+      beyond = beyond p c.new-text.ensures.empty c.new-text.ensures.bytes c.len.ensures }

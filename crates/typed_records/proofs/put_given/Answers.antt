@@ -12,4 +12,4 @@ returns c =
     let d = c.put_byte-zero.ensures in
     let e = c.put_byte.ensures in
     let p = followed (followed (followed a b (omega arith)) d (omega arith)) e (omega arith) in
-    record { appended = rw (← c.low.ensures, ← c.presence_of.ensures, ← c.flag_of.ensures.0) p; value = omega arith }
+    record { appended = rw (← c.value_of.ensures, ← c.low.ensures, ← c.presence_of.ensures, ← c.flag_of.ensures.0) p; value = omega arith }

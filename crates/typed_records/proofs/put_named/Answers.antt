@@ -12,4 +12,4 @@ returns c =
     let d = c.put_byte-priority.ensures in
     let e = c.put_byte.ensures in
     let p = followed (followed (followed a b (omega arith)) d (omega arith)) e (omega arith) in
-    record { appended = rw (← c.low.ensures, ← c.low-2.ensures, ← c.low-3.ensures, ← c.low-4.ensures) p; value = omega arith }
+    record { appended = rw (← c.value_of-chart.ensures, ← c.value_of.ensures, ← c.value_of-2.ensures, ← c.low.ensures, ← c.low-2.ensures, ← c.low-3.ensures, ← c.low-4.ensures) p; value = omega arith }

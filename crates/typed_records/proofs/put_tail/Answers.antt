@@ -11,4 +11,4 @@ returns c =
     let b = c.put_number-low_bits.ensures in
     let d = c.put_number-high_bits.ensures in
     let e = c.put_number.ensures in
-    record { appended = followed (followed (followed a.appended b.appended (omega arith)) d.appended (omega arith)) e.appended (omega arith); value = omega arith }
+    record { appended = rw (← c.value_of.ensures, ← c.value_of-bits.ensures, ← c.value_of-2.ensures) (followed (followed (followed a.appended b.appended (omega arith)) d.appended (omega arith)) e.appended (omega arith)); value = omega arith }

@@ -15,7 +15,7 @@ loop-f-preserved c =
     let x = c.args in
     let l = c.loop-f in
     let p = c.put_number-end in
-    (omega arith, omega arith, omega arith, next_piece (value_at x.l) l.f l.invariant.3 p.ensures.appended (omega arith))
+    (omega arith, omega arith, omega arith, next_piece (value_at x.l) l.f l.invariant.3 (rw (← c.value_of.ensures) p.ensures.appended) (omega arith))
 
 pub returns : goal.returns
 unfolding value_bytes

@@ -8,6 +8,3 @@ use Rattle.typed_records.proofs.put_values.Given as goal
 
 abbrev pub invariant-loop-f : goal.invariant-loop-f
 invariant-loop-f l = (l.f ≤ l.n) × (length l.out ≡ length l.initial.out) × (l.end ≡ l.at + 4 * l.f) × Appended l.initial.out l.at l.out l.end (joined (value_at l.l) l.f)
-
-abbrev pub decreases-loop-f : goal.decreases-loop-f
-decreases-loop-f l = l.n - l.f

@@ -1,13 +1,14 @@
 use mathlib.Core.Path.{◌≡◌}
-use mathlib.Core.Bool.{true}
-use Prim.Native.Nat.{◌-◌, ◌≤◌}
-use lib.ListN.{length, drop}
-use Rattle.words.specs.Lines.{lines_from}
+use lib.ListN.{length}
+use Rattle.std.specs.Prelude.{Ok}
+use Rattle.std.specs.Iterator.Adapters.{enumerate_source, enumerate_count}
+use Rattle.words.specs.Walk.{lines_left}
 use Rattle.typed_sheet.specs.Typed.{tally_all, tally_of}
+use Rattle.typed_sheet.proofs.Within.{Inside}
 use Rattle.typed_sheet.proofs.tally_text.Given as goal
 
-abbrev pub invariant-loop-at : goal.invariant-loop-at
-invariant-loop-at l = (l.nth ≤ l.at) × (l.at ≤ length l.text) × (tally_all l.t l.nth (lines_from l.at true (drop l.at l.text)) ≡ tally_of l.text)
-
-abbrev pub decreases-loop-at : goal.decreases-loop-at
-decreases-loop-at l = length l.text - l.at
+abbrev pub invariant-loop-i : goal.invariant-loop-i
+invariant-loop-i l = record {
+  judged : tally_all (Ok l.t) (enumerate_count l.i-iterator) (lines_left (enumerate_source l.i-iterator)) ≡ tally_of l.text;
+  inside : Inside (length l.text) (lines_left (enumerate_source l.i-iterator));
+}

@@ -1,46 +1,42 @@
 -- `typed_sheet::write_kind` meets its contract. Assumes nothing.
-use native.Mathlib.Omega.{arith}
+use mathlib.Core.Path.{sym, ap, ◌∙◌}
+use Rattle.words.specs.Lines.{part}
+use Rattle.words.specs.Walk.{lines_left}
 use Rattle.typed_sheet.proofs.Sections.{started, has_room, hit, miss, finished}
 use Rattle.typed_sheet.proofs.write_kind.Goals as goal
-use Rattle.typed_sheet.proofs.write_kind.Goals.{then-l-kind, else-l-kind}
 
 pub loop-at-init : goal.loop-at-init
 loop-at-init c =
     let x = c.args in
-    started x.text.now x.kind x.out.now x.place
+    started x.text.now x.kind x.out.now x.place (lines_left c.into_iter-at-iterator.result) (ap lines_left c.into_iter-at-iterator.ensures.into_iter_gives ∙ c.new-at-items.ensures)
 
 pub put_record-to-requires : goal.put_record-to-requires
 put_record-to-requires c =
     let x = c.args in
     let l = c.loop-at in
-    let e = c.line_end-e in
     let r = c.read_line-l in
-    has_room x.text.now x.kind x.out.now x.place l.out l.to l.at e.result r.result (omega arith) e.ensures.0 c.requires l.invariant r.ensures c.if-l-kind.true
+    has_room x.text.now x.kind x.out.now x.place l.out l.to (lines_left l.at-iterator) (part c.in-Some.at c.in-Some.line.now) (lines_left c.next.new.self) r.result
+    c.in-Some.ensures.steps r.ensures c.requires l.invariant (sym c.is_kind.ensures ∙ c.if-is_kind.true)
 
-pub next_line-at-requires : goal.next_line-at-requires
-next_line-at-requires c = c.line_end-e.ensures.1
-
-pub loop-at-smaller : goal.loop-at-smaller
-loop-at-smaller c = omega (arith, c.line_end-e.ensures.0, c.line_end-e.ensures.1, c.next_line-at.ensures.far, c.next_line-at.ensures.to)
+pub loop-at-preserved-then-is_kind : goal.loop-at-preserved-then-is_kind
+loop-at-preserved-then-is_kind c =
+    let x = c.args in
+    let l = c.loop-at in
+    let r = c.read_line-l in
+    let w = c.put_record-to in
+    hit x.text.now x.kind x.out.now x.place l.out l.to (lines_left l.at-iterator) (part c.in-Some.at c.in-Some.line.now) (lines_left c.next.new.self) r.result
+    c.in-Some.ensures.steps r.ensures c.requires l.invariant w.new.out w.result (sym c.is_kind.ensures ∙ c.if-is_kind.true) w.ensures.appended w.ensures.value
 
 pub loop-at-preserved : goal.loop-at-preserved
 loop-at-preserved c =
     let x = c.args in
     let l = c.loop-at in
-    let e = c.line_end-e in
     let r = c.read_line-l in
-    let n = c.next_line-at in
-    let i = c.if-l-kind in
-    elim c.if-l-kind.branch [
-      | then-l-kind w ↦ hit x.text.now x.kind x.out.now x.place l.out l.to l.at e.result r.result (omega arith) e.ensures.0 c.requires l.invariant r.ensures n.result n.ensures i.out _ i.to w.put_record-to.result w.if-l-kind.true w.put_record-to.ensures.appended w.put_record-to.ensures.value w.out-is w.to-is
-      | else-l-kind w ↦ miss x.text.now x.kind x.out.now x.place l.out l.to l.at e.result r.result (omega arith) e.ensures.0 c.requires l.invariant r.ensures n.result n.ensures i.out i.to w.if-l-kind.false w.out-is w.to-is
-    ]
-
-pub shape_of-out : goal.shape_of-out
-shape_of-out c = c.loop-at.invariant.same
+    miss x.text.now x.kind x.out.now x.place l.out l.to (lines_left l.at-iterator) (part c.in-Some.at c.in-Some.line.now) (lines_left c.next.new.self) r.result
+    c.in-Some.ensures.steps r.ensures c.requires l.invariant (sym c.is_kind.ensures ∙ c.if-is_kind.false)
 
 pub returns : goal.returns
 returns c =
     let x = c.args in
     let l = c.loop-at in
-    finished x.text.now x.kind x.out.now x.place l.out l.to l.at (omega arith) l.invariant
+    finished x.text.now x.kind x.out.now x.place l.out l.to (lines_left l.at-iterator) c.in-None.ensures.steps.0 l.invariant

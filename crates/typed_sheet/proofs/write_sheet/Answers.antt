@@ -8,38 +8,38 @@ use Rattle.typed_sheet.proofs.write_sheet.Goals as goal
 pub put_number-first-requires : goal.put_number-first-requires
 put_number-first-requires c =
     let x = c.args in
-    omega (arith, c.requires, length_sections x.text.now x.charts x.weights x.plays)
+    omega (arith, c.requires, length_sections x.text.now x.t.charts x.t.weights x.t.plays)
 
 pub write_kind-second-requires : goal.write_kind-second-requires
 write_kind-second-requires c =
     let x = c.args in
-    omega (arith, c.requires, length_sections x.text.now x.charts x.weights x.plays, c.put_number-first.ensures.value)
+    omega (arith, c.requires, length_sections x.text.now x.t.charts x.t.weights x.t.plays, c.put_number-first.ensures.value)
 
 pub put_number-third-requires : goal.put_number-third-requires
 put_number-third-requires c =
     let x = c.args in
-    omega (arith, c.requires, length_sections x.text.now x.charts x.weights x.plays, c.put_number-first.ensures.value, c.write_kind-second.ensures.ends)
+    omega (arith, c.requires, length_sections x.text.now x.t.charts x.t.weights x.t.plays, c.put_number-first.ensures.value, c.write_kind-second.ensures.ends)
 
 pub write_kind-fourth-requires : goal.write_kind-fourth-requires
 write_kind-fourth-requires c =
     let x = c.args in
-    omega (arith, c.requires, length_sections x.text.now x.charts x.weights x.plays, c.put_number-first.ensures.value, c.write_kind-second.ensures.ends, c.put_number-third.ensures.value)
+    omega (arith, c.requires, length_sections x.text.now x.t.charts x.t.weights x.t.plays, c.put_number-first.ensures.value, c.write_kind-second.ensures.ends, c.put_number-third.ensures.value)
 
 pub put_number-fifth-requires : goal.put_number-fifth-requires
 put_number-fifth-requires c =
     let x = c.args in
-    omega (arith, c.requires, length_sections x.text.now x.charts x.weights x.plays, c.put_number-first.ensures.value, c.write_kind-second.ensures.ends, c.put_number-third.ensures.value, c.write_kind-fourth.ensures.ends)
+    omega (arith, c.requires, length_sections x.text.now x.t.charts x.t.weights x.t.plays, c.put_number-first.ensures.value, c.write_kind-second.ensures.ends, c.put_number-third.ensures.value, c.write_kind-fourth.ensures.ends)
 
 pub write_kind-requires : goal.write_kind-requires
 write_kind-requires c =
     let x = c.args in
-    omega (arith, c.requires, length_sections x.text.now x.charts x.weights x.plays, c.put_number-first.ensures.value, c.write_kind-second.ensures.ends, c.put_number-third.ensures.value, c.write_kind-fourth.ensures.ends, c.put_number-fifth.ensures.value)
+    omega (arith, c.requires, length_sections x.text.now x.t.charts x.t.weights x.t.plays, c.put_number-first.ensures.value, c.write_kind-second.ensures.ends, c.put_number-third.ensures.value, c.write_kind-fourth.ensures.ends, c.put_number-fifth.ensures.value)
 
 pub returns : goal.returns
 unfolding sheet_bytes
 returns c =
     let x = c.args in
-    let k = length_sections x.text.now x.charts x.weights x.plays in
+    let k = length_sections x.text.now x.t.charts x.t.weights x.t.plays in
     let h = c.requires in
     let a = c.put_number-first.ensures in
     let b = c.write_kind-second.ensures in

@@ -12,7 +12,7 @@ unfolding first_stopped
 loop-i-init c =
     let x = c.args in
     let z : x.p.queries - 0 ≡ x.p.queries = omega arith in
-    (omega arith, rw z (ap (first_from (fault_at x.sheet.now) 0) (queries_are x.sheet.now x.p c.requires)))
+    rw z (ap (first_from (fault_at x.sheet.now) 0) (queries_are x.sheet.now x.p c.requires))
 
 pub fault_at-requires : goal.fault_at-requires
 fault_at-requires c = record { placed = c.requires; i_lt_queries = omega arith }
@@ -22,17 +22,18 @@ returns-then-fault_at-gt0 c =
     let x = c.args in
     let l = c.loop-i in
     let f : 0 < fault_at x.sheet.now l.i = rw c.fault_at.ensures at c.if-fault_at-gt0.true in
-    sym (first_here (fault_at x.sheet.now) l.i x.p.queries (omega arith) f) ∙ l.invariant.1
+    sym (first_here (fault_at x.sheet.now) l.i x.p.queries (omega arith) f) ∙ l.invariant
 
 pub loop-i-preserved : goal.loop-i-preserved
 loop-i-preserved c =
     let x = c.args in
     let l = c.loop-i in
     let z : c.fault_at.result ≡ 0 = omega arith in
-    (omega arith, sym (first_on (fault_at x.sheet.now) l.i x.p.queries (omega arith) (sym c.fault_at.ensures ∙ z)) ∙ l.invariant.1)
+    sym (first_on (fault_at x.sheet.now) l.i x.p.queries (omega arith) (sym c.fault_at.ensures ∙ z)) ∙ l.invariant
 
 pub returns : goal.returns
 returns c =
     let x = c.args in
     let l = c.loop-i in
-    sym (first-none (fault_at x.sheet.now) l.i x.p.queries (omega arith)) ∙ l.invariant.1
+    let z : l.i ≡ x.p.queries = omega arith in
+    sym z ∙ sym (first-none (fault_at x.sheet.now) l.i x.p.queries z) ∙ l.invariant

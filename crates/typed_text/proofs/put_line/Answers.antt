@@ -1,6 +1,6 @@
 -- `typed_text::put_line` meets its contract. Assumes nothing.
 use native.Mathlib.Omega.{arith}
-use Rattle.text.proofs.Appended.{restated}
+use Rattle.text.proofs.Written.{restated}
 use Rattle.typed_text.proofs.Inside.{placed}
 use Rattle.typed_text.proofs.Texts.{line_chart, line_weights, line_play}
 use Rattle.typed_text.proofs.put_line.Goals as goal
@@ -18,7 +18,7 @@ pub returns-then-j-charts : goal.returns-then-j-charts
 returns-then-j-charts c =
     let x = c.args in
     let e = line_chart x.sheet.now x.p c.requires.placed x.j c.if-j-charts.true c.read_chart.result c.read_chart.ensures in
-    record { appended = restated c.put_chart.ensures.appended e; upper_bound = omega (arith, c.put_chart.ensures.upper_bound) }
+    record { gained = restated c.put_chart.ensures.gained e; upper_bound = omega (arith, c.put_chart.ensures.upper_bound) }
 
 pub overflow_add-before : goal.overflow_add-before
 overflow_add-before c = let w = placed c.args.sheet.now c.args.p c.requires.placed in omega arith
@@ -30,7 +30,7 @@ pub returns-then-j-before : goal.returns-then-j-before
 returns-then-j-before c =
     let x = c.args in
     let e = line_weights x.sheet.now x.p c.requires.placed x.j c.if-j-charts.false c.if-j-before.true c.read_weights.result c.read_weights.ensures in
-    record { appended = restated c.put_weights.ensures.appended e; upper_bound = omega (arith, c.put_weights.ensures.upper_bound) }
+    record { gained = restated c.put_weights.ensures.gained e; upper_bound = omega (arith, c.put_weights.ensures.upper_bound) }
 
 pub overflow_mul-j-2 : goal.overflow_mul-j-2
 overflow_mul-j-2 c = let w = placed c.args.sheet.now c.args.p c.requires.placed in omega arith
@@ -45,4 +45,4 @@ pub returns : goal.returns
 returns c =
     let x = c.args in
     let e = line_play x.sheet.now x.p c.requires.placed x.j c.if-j-before.false c.read_row.result c.read_row.ensures in
-    record { appended = restated c.put_play.ensures.appended e; upper_bound = omega (arith, c.put_play.ensures.upper_bound) }
+    record { gained = restated c.put_play.ensures.gained e; upper_bound = omega (arith, c.put_play.ensures.upper_bound) }

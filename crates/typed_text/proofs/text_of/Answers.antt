@@ -1,10 +1,12 @@
 -- `typed_text::text_of` meets its contract. Assumes nothing.
 use Prim.Native.Nat.{◌≤◌}
 use native.Mathlib.Omega.{arith}
+use borrow.Author.Rules.{rules}
 use lib.ListN.{length}
-use Rattle.text.proofs.Appended.{restated, counted}
+use Rattle.text.proofs.Written.{restated, at_start, counted}
 use Rattle.sheets_laws.specs.Sheets.{query_count}
-use Rattle.typed_text.specs.SheetText.{first_stopped, text_of}
+use Rattle.typed_text.specs.SheetText.{first_stopped, text_of, sheet_text, Says}
+use Rattle.typed_text.specs.declared.SheetText.TheVariants.{Text}
 use Rattle.typed_text.proofs.Inside.{placed, queries_are}
 use Rattle.typed_text.proofs.Texts.{all_lines, refused, stopped, too_short, written}
 use Rattle.typed_text.proofs.text_of.Goals as goal
@@ -42,5 +44,9 @@ returns c =
     let h = c.places_of-p.ensures in
     let q : query_count x.sheet.now ≤ first_stopped x.sheet.now = rw (queries_are x.sheet.now p h, c.first_stopped-index.ensures) at c.if-index-p.false in
     let k : length (text_of x.sheet.now) ≤ length x.out.now = rw (c.text_size.ensures, all_lines x.sheet.now p h) at c.if-out-text_size.false in
-    let w = c.write_lines.ensures in
-    record { outcome = written x.sheet.now x.out.now h.accepted q k c.write_lines.result c.write_lines.new.out (restated c.write_lines.ensures (all_lines x.sheet.now p h)); counted = counted w }
+    let text = c.new-text.ensures in
+    let w = restated c.write_lines.ensures (all_lines x.sheet.now p h) in
+    let all : Says (sheet_text x.sheet.now x.out.now) (Text c.len.result) c.write_lines.new.text.bytes.now =
+    written x.sheet.now x.out.now h.accepted q k c.len.result c.write_lines.new.text.bytes.now (at_start w text.empty text.bytes c.len.ensures) in
+    let within = counted w text.empty text.bytes c.len.ensures in
+    record { outcome = search rules; counted = search rules }

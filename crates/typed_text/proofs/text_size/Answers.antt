@@ -8,10 +8,7 @@ use Rattle.typed_text.proofs.Texts.{length_next}
 use Rattle.typed_text.proofs.text_size.Goals as goal
 
 pub loop-j-init : goal.loop-j-init
-loop-j-init c = (omega arith, omega arith, refl)
-
-pub line_size-size-requires : goal.line_size-size-requires
-line_size-size-requires c = record { placed = c.requires.placed; j_bound = omega arith }
+loop-j-init c = (omega arith, refl)
 
 pub overflow_add-size : goal.overflow_add-size
 overflow_add-size c = let w = placed c.args.sheet.now c.args.p c.requires.placed in omega arith
@@ -19,10 +16,10 @@ overflow_add-size c = let w = placed c.args.sheet.now c.args.p c.requires.placed
 pub loop-j-preserved : goal.loop-j-preserved
 loop-j-preserved c =
     let l = c.loop-j in
-    (omega arith, omega arith, omega (arith, length_next (line_at c.args.sheet.now) l.j))
+    (omega arith, omega (arith, length_next (line_at c.args.sheet.now) l.j))
 
 pub returns : goal.returns
 returns c =
     let l = c.loop-j in
     let z : l.j ≡ c.args.n = omega arith in
-    rw z at l.invariant.2
+    rw z at l.invariant.1

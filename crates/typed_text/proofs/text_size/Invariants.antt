@@ -1,12 +1,9 @@
 use mathlib.Core.Path.{◌≡◌}
-use Prim.Native.Nat.{◌*◌, ◌-◌, ◌≤◌}
+use Prim.Native.Nat.{◌*◌, ◌≤◌}
 use lib.ListN.{length}
 use Rattle.lists.specs.Lists.{joined}
 use Rattle.typed_text.specs.SheetText.{line_at}
 use Rattle.typed_text.proofs.text_size.Given as goal
 
 abbrev pub invariant-loop-j : goal.invariant-loop-j
-invariant-loop-j l = (l.j ≤ l.n) × (l.size ≤ 195 * l.j) × (l.size ≡ length (joined (line_at l.sheet) l.j))
-
-abbrev pub decreases-loop-j : goal.decreases-loop-j
-decreases-loop-j l = l.n - l.j
+invariant-loop-j l = (l.size ≤ 195 * l.j) × (l.size ≡ length (joined (line_at l.sheet) l.j))

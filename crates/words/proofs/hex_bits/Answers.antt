@@ -1,56 +1,57 @@
 -- `words::hex_bits` meets its contract. Assumes nothing.
 use mathlib.Core.Path.{◌≡◌, sym, ap, ◌∙◌}
-use Prim.Native.Nat.{◌+◌, ◌-◌, ◌*◌, ◌^◌, ◌≤◌}
+use Prim.Native.Nat.{◌+◌, ◌*◌, ◌^◌, ◌≤◌}
 use native.Mathlib.Numerals.{add-one}
 use native.Mathlib.Nat.{pow-suc, pow-le-pow_right}
 use native.Mathlib.Omega.{arith}
-use lib.ListN.{length}
+use lib.ListN.{length, get_or}
 use borrow.Author.Tests.{eq-eqb, ne_eqb}
 use Rattle.words.specs.Values.{hex_digit, hex_of}
 use Rattle.words.proofs.Values.{hex-over, hex-none, hex_on}
+use Rattle.words.proofs.Keywords.{lowercase-small}
 use Rattle.words.proofs.hex_bits.Goals as goal
 
 pub returns-then-w-ne16 : goal.returns-then-w-ne16
 unfolding hex_of
 returns-then-w-ne16 c = rw (ne_eqb (length c.args.w.now) 16 c.if-w-ne16.true)
 
-pub loop-i-init : goal.loop-i-init
+pub loop-b-init : goal.loop-b-init
 unfolding hex_of
-loop-i-init c = (omega arith, c.if-w-ne16.false, omega arith, rw (eq-eqb (length c.args.w.now) 16 c.if-w-ne16.false))
+loop-b-init c = (omega arith, c.if-w-ne16.false, omega arith, rw (eq-eqb (length c.args.w.now) 16 c.if-w-ne16.false))
 
 pub returns-then-d-eq16 : goal.returns-then-d-eq16
 returns-then-d-eq16 c =
     let w = c.args.w.now in
-    let l = c.loop-i in
+    let l = c.loop-b in
     let d = c.hex_digit-d in
-    let e = d.ensures.0 ∙ ap hex_digit c.small_letter.ensures in
-    sym (hex-none w l.i d.result (omega arith) e l.v c.if-d-eq16.true) ∙ l.invariant.3
+    let e = d.ensures.0 ∙ ap hex_digit (c.to_ascii_lowercase.ensures.value ∙ lowercase-small (get_or w l.b-index 0)) in
+    sym (hex-none w l.b-index d.result (omega arith) e l.v c.if-d-eq16.true) ∙ l.invariant.3
 
 pub overflow_mul-v : goal.overflow_mul-v
 overflow_mul-v c =
-    let l = c.loop-i in
-    let h : l.i ≤ 15 = omega arith in
-    let p : 16 ^ l.i ≤ 1152921504606846976 = pow-le-pow_right (omega arith) h in
+    let l = c.loop-b in
+    let h : l.b-index ≤ 15 = omega arith in
+    let p : 16 ^ l.b-index ≤ 1152921504606846976 = pow-le-pow_right (omega arith) h in
     omega arith
 
 pub overflow_add-v : goal.overflow_add-v
 overflow_add-v c =
-    let l = c.loop-i in
-    let h : l.i ≤ 15 = omega arith in
-    let p : 16 ^ l.i ≤ 1152921504606846976 = pow-le-pow_right (omega arith) h in
+    let l = c.loop-b in
+    let h : l.b-index ≤ 15 = omega arith in
+    let p : 16 ^ l.b-index ≤ 1152921504606846976 = pow-le-pow_right (omega arith) h in
     omega arith
 
-pub loop-i-preserved : goal.loop-i-preserved
-loop-i-preserved c =
+pub loop-b-preserved : goal.loop-b-preserved
+loop-b-preserved c =
     let w = c.args.w.now in
-    let l = c.loop-i in
+    let l = c.loop-b in
     let d = c.hex_digit-d in
-    let e = d.ensures.0 ∙ ap hex_digit c.small_letter.ensures in
-    let p : 16 ^ (l.i + 1) ≡ 16 ^ l.i * 16 = rw (add-one l.i) (pow-suc 16 l.i) in
-    (omega arith, l.invariant.1, omega arith, sym (hex_on w l.i d.result (omega arith) e l.v c.if-d-eq16.false) ∙ l.invariant.3)
+    let e = d.ensures.0 ∙ ap hex_digit (c.to_ascii_lowercase.ensures.value ∙ lowercase-small (get_or w l.b-index 0)) in
+    let p : 16 ^ (l.b-index + 1) ≡ 16 ^ l.b-index * 16 = rw (add-one l.b-index) (pow-suc 16 l.b-index) in
+    (omega arith, l.invariant.1, omega arith, sym (hex_on w l.b-index d.result (omega arith) e l.v c.if-d-eq16.false) ∙ l.invariant.3)
 
 pub returns : goal.returns
 returns c =
     let w = c.args.w.now in
-    let l = c.loop-i in
-    sym (hex-over w l.i (omega arith) l.v) ∙ l.invariant.3
+    let l = c.loop-b in
+    sym (hex-over w l.b-index (omega arith) l.v) ∙ l.invariant.3

@@ -1,30 +1,21 @@
 -- `words::is_keyword` meets its contract. Assumes nothing.
-use mathlib.Core.Path.{refl, sym, ◌∙◌}
-use Prim.Native.Nat.{◌-◌}
-use native.Mathlib.Omega.{arith}
-use Rattle.words.proofs.Keywords.{says-length, says_on, says_off, says-over}
+use mathlib.Core.Path.{sym, ◌∙◌}
+use borrow.Author.Tests.{ne_eqb}
+use lib.ListN.{length}
+use Rattle.std.proofs.Common.{rules, tests}
+use Rattle.std.proofs.lemmas.Iterator.{YieldsList-from_slice, YieldsList-from_zip, cases_from_all}
+use Rattle.words.proofs.Keywords.{Alike, Unlike, says-length, says_paired}
 use Rattle.words.proofs.is_keyword.Goals as goal
 
 pub returns-then-w-k : goal.returns-then-w-k
-returns-then-w-k c = sym (says-length c.args.w.now c.args.k.now c.if-w-k.true)
+returns-then-w-k c =
+    let w = c.args.w.now in
+    let k = c.args.k.now in
+    let pairs = YieldsList-from_zip (YieldsList-from_slice w cc) (YieldsList-from_slice k cc) in
+    says_paired w k c.all.result c.if-w-k.true (cases_from_all c.all.new.self _ c.all.result Alike Unlike c.all.ensures.ran pairs (λ x q h. search (rules, tests)) (λ x q h. search (rules, tests)))
 
-pub loop-i-init : goal.loop-i-init
-loop-i-init c = (omega arith, c.if-w-k.false, refl)
-
-pub returns-then-small_letter-k : goal.returns-then-small_letter-k
-returns-then-small_letter-k c =
-    let x = c.args in
-    let l = c.loop-i in
-    sym (says_off x.w.now x.k.now l.i (omega arith) l.invariant.1 (λ e. c.if-small_letter-k.true (c.small_letter.ensures ∙ e))) ∙ l.invariant.2
-
-pub loop-i-preserved : goal.loop-i-preserved
-loop-i-preserved c =
-    let x = c.args in
-    let l = c.loop-i in
-    (omega arith, l.invariant.1, sym (says_on x.w.now x.k.now l.i (omega arith) l.invariant.1 (sym c.small_letter.ensures ∙ c.if-small_letter-k.false)) ∙ l.invariant.2)
-
-pub returns : goal.returns
-returns c =
-    let x = c.args in
-    let l = c.loop-i in
-    sym (says-over x.w.now x.k.now l.i (omega arith) l.invariant.1) ∙ l.invariant.2
+pub returns-else-w-k : goal.returns-else-w-k
+returns-else-w-k c =
+    let w = c.args.w.now in
+    let k = c.args.k.now in
+    ne_eqb (length w) (length k) c.if-w-k.false ∙ sym (says-length w k c.if-w-k.false)

@@ -1,27 +1,14 @@
 -- `words::line_end` meets its contract. Assumes nothing.
-use mathlib.Core.Path.{refl}
-use Prim.Native.Nat.{◌-◌}
-use native.Mathlib.Omega.{arith}
-use Rattle.words.proofs.Sizes.{line_on, line_off, line_over}
+use mathlib.Core.Path.{ap, ◌∙◌}
+use Prim.Native.Nat.{◌+◌, ◌-◌}
+use lib.ListN.{length}
+use Rattle.std.specs.Option.{unwrap_or}
+use Rattle.words.proofs.Sizes.{line_past}
 use Rattle.words.proofs.line_end.Goals as goal
-
-pub loop-i-init : goal.loop-i-init
-loop-i-init c = (omega arith, omega arith, refl)
-
-pub returns-then-s-i-eq10 : goal.returns-then-s-i-eq10
-returns-then-s-i-eq10 c =
-    let s = c.args.s.now in
-    let l = c.loop-i in
-    (omega (arith, l.invariant.2, line_off s l.i (omega arith) c.if-s-i-eq10.true), omega arith)
-
-pub loop-i-preserved : goal.loop-i-preserved
-loop-i-preserved c =
-    let s = c.args.s.now in
-    let l = c.loop-i in
-    (omega arith, omega arith, omega (arith, l.invariant.2, line_on s l.i (omega arith) c.if-s-i-eq10.false))
 
 pub returns : goal.returns
 returns c =
-    let s = c.args.s.now in
-    let l = c.loop-i in
-    (omega (arith, l.invariant.2, line_over s l.i (omega arith)), omega arith)
+    let h = line_past c.args.s.now c.args.at c.requires in
+    let e = c.unwrap_or.ensures ∙ ap (λ o. unwrap_or o (length c.args.s.now - c.args.at)) c.first_lf.ensures.value in
+    let r = ap (λ n. c.args.at + n) e ∙ h.0 in
+    (r, rw r h.1)

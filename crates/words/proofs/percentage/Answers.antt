@@ -1,21 +1,19 @@
 -- `words::percentage` meets its contract. Assumes nothing.
-use lib.ListN.{length, get_or}
+use mathlib.Core.Path.{sym, ◌∙◌}
+use lib.ListN.{get_or}
 use borrow.Author.Tests.{eq-eqb, ne_eqb}
 use Rattle.words.specs.Values.{percent_of}
 use Rattle.words.proofs.percentage.Goals as goal
+use Rattle.words.proofs.percentage.Goals.{then-is_empty-via-then-is_empty, then-is_empty-via-else-is_empty+then-w-eq46}
 
-pub returns-then-w-eq0 : goal.returns-then-w-eq0
+pub returns-then-is_empty : goal.returns-then-is_empty
 unfolding percent_of
-returns-then-w-eq0 c = rw (eq-eqb (length c.args.w.now) 0 c.if-w-eq0.true)
-
-pub returns-then-w-eq46 : goal.returns-then-w-eq46
-unfolding percent_of
-returns-then-w-eq46 c =
-    let w = c.args.w.now in
-    rw (ne_eqb (length w) 0 c.if-w-eq0.false, eq-eqb (get_or w 0 0) 46 c.if-w-eq46.true)
+returns-then-is_empty c =
+    elim c.then-is_empty.branch [
+      | then-is_empty-via-then-is_empty w ↦ rw (sym c.is_empty.ensures ∙ w.if-is_empty.true)
+      | then-is_empty-via-else-is_empty+then-w-eq46 w ↦ rw (sym c.is_empty.ensures ∙ w.if-is_empty.false, eq-eqb (get_or c.args.w.now 0 0) 46 w.if-w-eq46.true)
+    ]
 
 pub returns : goal.returns
 unfolding percent_of
-returns c =
-    let w = c.args.w.now in
-    rw (ne_eqb (length w) 0 c.if-w-eq0.false, ne_eqb (get_or w 0 0) 46 c.if-w-eq46.false) c.before_point.ensures
+returns c = rw (sym c.is_empty.ensures ∙ c.if-is_empty.false, ne_eqb (get_or c.args.w.now 0 0) 46 c.if-w-eq46.false) c.before_point.ensures

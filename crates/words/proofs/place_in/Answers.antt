@@ -1,50 +1,29 @@
 -- `words::place_in` meets its contract. Assumes nothing.
-use mathlib.Core.Path.{sym, ◌∙◌}
-use mathlib.Core.Bool.{false}
-use Prim.Native.Nat.{◌-◌}
+use mathlib.Core.Path.{ap, ◌∙◌}
+use mathlib.Core.Logic.{inl}
+use lib.ListN.{length}
 use native.Mathlib.Omega.{arith}
-use Rattle.words.specs.Words.{words}
-use Rattle.words.proofs.Keywords.{among_none, among-found, among_on, among-over}
+use Rattle.std.proofs.Common.{rules, tests}
+use Rattle.std.proofs.lemmas.Iterator.Consumers.{YieldsList-from_first}
+use Rattle.std.proofs.lemmas.Iterator.Search.{position_from_yields_List}
+use Rattle.std.proofs.lemmas.Iterator.Adapters.{position_from-zero}
+use Rattle.words.specs.Lines.{Part}
+use Rattle.words.specs.Words.{says, words}
+use Rattle.words.specs.Walk.{words_left, part_of}
+use Rattle.words.proofs.Follow.{few_words}
+use Rattle.words.proofs.Keywords.{bytes_searched}
 use Rattle.words.proofs.place_in.Goals as goal
 
-pub loop-at-init : goal.loop-at-init
-unfolding words
-loop-at-init c = (omega arith, omega arith, omega arith)
-
-pub returns-then-e-a : goal.returns-then-e-a
-returns-then-e-a c =
-    let x = c.args in
-    let l = c.loop-at in
-    let a = c.skip_blanks-a in
-    let e = c.word_end-e in
-    let d = among_none x.w.now x.keywords.now l.at a.result e.result l.n a.ensures.0 e.ensures.0 c.if-e-a.true in
-    record { value = sym d ∙ l.invariant.2; upper_bound = omega arith }
-
-pub returns-then-is_keyword : goal.returns-then-is_keyword
-returns-then-is_keyword c =
-    let x = c.args in
-    let l = c.loop-at in
-    let a = c.skip_blanks-a in
-    let e = c.word_end-e in
-    let f = sym c.is_keyword.ensures ∙ c.if-is_keyword.true in
-    let d = among-found x.w.now x.keywords.now l.at a.result e.result l.n a.ensures.0 e.ensures.0 c.if-e-a.false f in
-    record { value = sym d ∙ l.invariant.2; upper_bound = omega arith }
-
-pub loop-at-smaller : goal.loop-at-smaller
-loop-at-smaller c = omega (arith, c.skip_blanks-a.ensures.0, c.word_end-e.ensures.0, c.word_end-e.ensures.1, c.if-e-a.false)
-
-pub loop-at-preserved : goal.loop-at-preserved
-loop-at-preserved c =
-    let x = c.args in
-    let l = c.loop-at in
-    let a = c.skip_blanks-a in
-    let e = c.word_end-e in
-    let f = sym c.is_keyword.ensures ∙ c.if-is_keyword.false in
-    let d = among_on x.w.now x.keywords.now l.at a.result e.result l.n a.ensures.0 e.ensures.0 c.if-e-a.false f in
-    (omega (arith, a.ensures.0, e.ensures.0, c.if-e-a.false), e.ensures.1, sym d ∙ l.invariant.2)
+pub position-requires-clause-fits : goal.position-requires-clause-fits
+position-requires-clause-fits c =
+    let n = few_words 0 c.args.keywords.now in
+    inl (omega (arith, ap length c.new.ensures))
 
 pub returns : goal.returns
 returns c =
     let x = c.args in
-    let l = c.loop-at in
-    record { value = sym (among-over x.w.now x.keywords.now l.at l.n (omega arith)) ∙ l.invariant.2; upper_bound = omega arith }
+    let all = words 0 x.keywords.now in
+    position_from_yields_List (λ (p : Part). says x.w.now p.bytes) c.position.new.self _ c.position.result c.position.ensures.ran
+    (YieldsList-from_first part_of words_left all c.new.ensures) (λ y b q k. search (rules, tests))
+    ∙ position_from-zero (λ (p : Part). says x.w.now p.bytes) all
+    ∙ bytes_searched (says x.w.now) all 0

@@ -1,4 +1,3 @@
-use Prim.Native.Nat.{◌+◌, ◌-◌}
 use mathlib.Core.Path.{◌≡◌}
 use lib.Ieee.{lt}
 use Rattle.closest_laws.specs.Loops.{first_two, range, each, scan}
@@ -6,10 +5,7 @@ use Rattle.closest_laws.specs.Closest.{inner}
 use Rattle.closest.specs.Code.{play_view, best_view}
 use Rattle.closest.proofs.Best.row.Given as goal
 
-abbrev pub invariant-loop-play : goal.invariant-loop-play
-invariant-loop-play l =
-    scan lt (each (range l.new300.0 l.span.hi.0) (inner first_two (play_view l.play) l.new320.0)) (best_view l.best)
-    ≡ scan lt (each (range l.initial.new300.0 l.span.hi.0) (inner first_two (play_view l.play) l.new320.0)) (best_view l.initial.best)
-
-abbrev pub decreases-loop-play : goal.decreases-loop-play
-decreases-loop-play l = l.span.hi.0 + 1 - l.new300.0
+abbrev pub invariant-loop-new300 : goal.invariant-loop-new300
+invariant-loop-new300 l =
+    scan lt (each (range l.new300 l.new300-end) (inner first_two (play_view l.play) l.new320.0)) (best_view l.best)
+    ≡ scan lt (each (range l.initial.new300 l.new300-end) (inner first_two (play_view l.play) l.new320.0)) (best_view l.initial.best)

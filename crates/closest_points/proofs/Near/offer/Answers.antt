@@ -1,22 +1,23 @@
 -- `closest_points::Near::offer`: the counts are taken where nothing is found yet or they are nearer. Assumes nothing.
-use mathlib.Core.Path.{sym, ap, ◌∙◌}
-use mathlib.Core.Bool.{not}
+use mathlib.Core.Path.{sym, ◌∙◌}
+use Rattle.units.proofs.Order.{lt_of}
 use Rattle.closest_laws.specs.Loops.{nearer}
-use Rattle.closest_laws.proofs.Steps.{offer_took, near-fresh, near_less, near_kept}
-use Rattle.closest_points.specs.Code.{near_try, near_view}
+use Rattle.closest_laws.proofs.Steps.{offer_took, offer_kept}
 use Rattle.closest_points.proofs.Near.offer.Goals as goal
-use Rattle.closest_points.proofs.Near.offer.Goals.{then-fresh-via-then-fresh, then-fresh-via-else-fresh+then-less}
+use Rattle.closest_points.proofs.Near.offer.Goals.{in-Some, in-None}
 
-pub returns-then-fresh : goal.returns-then-fresh
-returns-then-fresh c =
-    let x = c.args in
-    offer_took nearer (near_try x.dist x.counts) (near_view x.self)
-    (elim c.then-fresh.branch [
-      | then-fresh-via-then-fresh w ↦ near-fresh x.self.found x.dist.0 x.self.dist.0 w.if-fresh.true
-      | then-fresh-via-else-fresh+then-less w ↦ near_less x.self.found x.dist.0 x.self.dist.0 w.if-fresh.false (sym w.less.ensures ∙ w.if-less.true)
+pub returns-then-nearer : goal.returns-then-nearer
+unfolding nearer
+returns-then-nearer g c =
+    offer_took nearer _ _ (elim c.match-self.branch [
+      | in-Some w ↦ rw w.in-Some.is (sym (w.nearer-is ∙ lt_of _ _ _ w.lt-nearer.ensures) ∙ c.if-nearer.true)
+      | in-None w ↦ rw w.in-None.is
     ])
 
-pub returns-else-less : goal.returns-else-less
-returns-else-less c =
-    let x = c.args in
-    near_kept x.self.found x.counts x.dist.0 x.self.dist.0 x.self.best c.if-fresh.false (sym c.less.ensures ∙ c.if-less.false)
+pub returns-else-nearer : goal.returns-else-nearer
+unfolding nearer
+returns-else-nearer g c =
+    offer_kept nearer _ _ (elim c.match-self.branch [
+      | in-Some w ↦ rw w.in-Some.is (sym (w.nearer-is ∙ lt_of _ _ _ w.lt-nearer.ensures) ∙ c.if-nearer.false)
+      | in-None w ↦ rw w.in-None.is (sym w.nearer-is ∙ c.if-nearer.false)
+    ])

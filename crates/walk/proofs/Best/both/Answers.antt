@@ -1,5 +1,5 @@
 -- `both` settles the two candidates of a setting.
-use Prim.Native.Nat.{ℕ, ◌+◌, ◌<◌}
+use Prim.Native.Nat.{◌+◌}
 use mathlib.Core.Path.{◌≡◌, sym, ◌∙◌}
 use native.Mathlib.Omega.{arith}
 use borrow.Author.Tests.{ltb-true}
@@ -7,7 +7,7 @@ use Rattle.units.specs.Gap.{gap}
 use Rattle.units.proofs.Order.{lt_of}
 use Rattle.nearest_laws.proofs.Steps.{settle_mono, lowest-le}
 use Rattle.walk.specs.Code.{view, both_of, trial_of}
-use Rattle.walk.proofs.Level.{low_gap, low_next, low_fits, after_low, lower_over, lower_end, lower_tried, lower_on}
+use Rattle.walk.proofs.Level.{low_next, low_fits, after_low, lower_over, lower_end, lower_tried, lower_on}
 use Rattle.walk.proofs.Best.both.Goals as goal
 
 pub attempt-next-requires : goal.attempt-next-requires

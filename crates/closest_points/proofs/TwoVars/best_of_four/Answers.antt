@@ -1,0 +1,19 @@
+-- `closest_points::TwoVars::best_of_four`: the loop offers its four splits in turn. Assumes nothing.
+use Prim.Native.Nat.{ℕ}
+use mathlib.Core.Path.{ap}
+use mathlib.Core.List.{List}
+use mathlib.Core.Option.{Option}
+use native.Mathlib.Omega.{arith}
+use Rattle.closest_laws.specs.Loops.{Kept, scan, each, nearer}
+use Rattle.closest_laws.proofs.Steps.{each_turn, each_done}
+use Rattle.closest_points.proofs.TwoVars.best_of_four.Goals as goal
+use Rattle.closest_points.proofs.TwoVars.best_of_four.Invariants.{tries}
+
+pub loop-x-preserved : goal.loop-x-preserved
+unfolding scan
+loop-x-preserved c = each_turn nearer (tries c.args.self) _ c.loop-x.x-index _ _ _ _ c.loop-x-test.true c.split_at-near.ensures c.loop-x.invariant
+
+pub returns : goal.returns
+unfolding each
+returns c =
+    ap (λ (b : Kept (Option ℕ) (List ℕ)). b.result) (each_done nearer (tries c.args.self) _ c.loop-x.x-index _ _ c.loop-x-test.false c.loop-x.invariant)
