@@ -5,7 +5,7 @@ ghost use Rattle.std.specs.Prelude.{◌≡◌, ◌++◌, ◌≤◌, length, drop
 ghost use Rattle.totals.specs.Totals.{seven_of};
 ghost use Rattle.sheet_call.specs.SheetLent.{sheet_lent, sheet_handed};
 
-use sheets::SheetAnswer;
+use refusals::Refusal;
 use totals::Totals;
 
 // The seven numbers of a sheet to an output that has room for them.
@@ -28,13 +28,13 @@ pub fn work_sheet(sheet: &[u8], out: &mut [u8], totals: &mut [u64]) -> u32
     ensures { sheet_lent result out.new totals.new ≡ sheet_handed sheet.now out.old totals.old }
 {
     if totals.len() < 7 {
-        return 5;
+        return Refusal::Short.into();
     }
     match sheets::work_sheet(sheet, out) {
-        SheetAnswer::Worked(_, t) => {
-            hand_totals(t, totals);
+        Ok(worked) => {
+            hand_totals(worked.totals, totals);
             0
         }
-        SheetAnswer::Refused(n) => n,
+        Err(refusal) => refusal.into(),
     }
 }
