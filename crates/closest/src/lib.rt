@@ -5,6 +5,7 @@
 
 ghost use Rattle.std.specs.Prelude.{◌≡◌, List, [], ◌∷◌, ℕ, ◌+◌, ◌-◌, ◌*◌, ◌<◌, ◌≤◌};
 ghost use Rattle.std.proofs.Math.Option.{Option};
+ghost use Rattle.std.specs.Range.{range_inclusive_end};
 ghost use Rattle.std.specs.Float.Ieee as Ieee;
 ghost use Rattle.units.specs.Limits.{most_weight, most_points};
 ghost use Rattle.score_state.specs.Points.{counts_of};
@@ -13,18 +14,19 @@ ghost use Rattle.score_state.specs.Accuracy.{Capped};
 ghost use Rattle.inspect.specs.Presence.{has, given, givens_of, lacking};
 ghost use Rattle.inspect.specs.Inspect.{inspect_of};
 ghost use Rattle.inspect.specs.Checks.{Domain};
-ghost use Rattle.closest_laws.specs.Loops.{range, first_two, offer, scan};
+ghost use Rattle.closest_laws.specs.Loops.{first_two, offer, scan};
 ghost use Rattle.closest_laws.specs.Closest as Laws;
 ghost use Rattle.closest_laws.specs.Closest.{closest_at, provided, weights, plain_optimize_last_three, inner, outer, plain_optimize_three_plus_missing, clamp_and_fill, by_missing};
-ghost use Rattle.closest_points.specs.Code.{pair_view, last_view};
+ghost use Rattle.closest_points.specs.Code.{values_of, pair_view, last_view};
 ghost use Rattle.closest.specs.Answer.{answer_of};
 ghost use Rattle.closest.specs.Within.{Within};
 
-use closest_points::{Left, Pair, Span, Three, TwoVars};
+use closest_points::{Left, Pair, Three, TwoVars};
 use inspect::{Missing, Query};
 use refusals::Refusal;
 use rounding::Acc;
 use score_state::HitResults;
+use std::ops::RangeInclusive;
 use units::{Hits, Points};
 
 // `generate_hitresults` where acc is given. Overfull: two counts are missing, and the given ones are over remain.
@@ -98,7 +100,7 @@ impl Play {
             inspect::misses(q),
         );
         Play {
-            w320: w320,
+            w320,
             target_numerator: inspect::target_of(acc, w320, inspect::total_hits(q)),
             remain: inspect::remain(q),
             presence: q.presence,
@@ -148,8 +150,8 @@ impl Play {
         let weights = score_state::standard_weights(self.w320 == 60);
         let (w1, w2) = self.missing_weights();
         let vars = TwoVars {
-            w1: w1,
-            w2: w2,
+            w1,
+            w2,
             remain_hits: self.remain - num_provided,
             provided_sum: score_state::points_of(weights, counts),
             target: self.target_numerator,
@@ -173,9 +175,8 @@ impl Play {
         requires { 3 ≤ lacking self.presence }
         ensures { result ≡ plain_optimize_three_plus_missing (play_view self) }
     {
-        let span = self.n320_values();
         let mut best = self.start();
-        for new320 in span.lo.0..=span.hi.0 {
+        for new320 in self.n320_values() {
             best = best.row(self, Hits(new320));
         }
         best.result
@@ -189,7 +190,7 @@ impl Play {
         let n50 = inspect::pick(self.presence, inspect::N50, self.remain.0, c.n50);
         Best {
             dist: f64::MAX,
-            result: HitResults { n50: n50, ..c },
+            result: HitResults { n50, ..c },
         }
     }
 
@@ -200,17 +201,17 @@ impl Play {
         Hits(c.n200) + Hits(c.n100) + Hits(c.n50)
     }
 
-    fn n320_values(self) -> Span
-        ensures { (range result.lo.0 result.hi.0 ≡ Laws.values320 first_two (play_view self)) × (result.hi.0 ≤ self.remain.0) }
+    fn n320_values(self) -> RangeInclusive<u32>
+        ensures { (values_of result ≡ Laws.values320 first_two (play_view self)) × (range_inclusive_end result ≤ self.remain.0) }
     {
         let n320 = inspect::given(self.presence, inspect::N320, self.counts.n320);
         let room = self.remain.saturating_sub(self.min_space_needed());
         closest_points::values(n320, room, self.remain, self.target_numerator, self.w320)
     }
 
-    fn n300_values(self, new320: Hits) -> Span
+    fn n300_values(self, new320: Hits) -> RangeInclusive<u32>
         requires { new320.0 ≤ self.remain.0 }
-        ensures { (range result.lo.0 result.hi.0 ≡ Laws.values300 first_two (play_view self) new320.0) × (result.hi.0 ≤ self.remain.0 - new320.0) }
+        ensures { (values_of result ≡ Laws.values300 first_two (play_view self) new320.0) × (range_inclusive_end result ≤ self.remain.0 - new320.0) }
     {
         let n300 = inspect::given(self.presence, inspect::N300, self.counts.n300);
         let remain_after_320 = self.remain - new320;
@@ -307,9 +308,8 @@ impl Best {
         if play.remain - new320 < play.min_space_needed() {
             return self;
         }
-        let span = play.n300_values(new320);
         let mut best = self;
-        for new300 in span.lo.0..=span.hi.0 {
+        for new300 in play.n300_values(new320) {
             best = best.attempt(play, new320, Hits(new300));
         }
         best
