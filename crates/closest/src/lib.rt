@@ -49,6 +49,7 @@ pub fn generate_hitresults(q: Query, acc: Acc) -> Result<HitResults, Refusal>
 }
 
 // The given count, or the next of the pair where it is missing; and what is then left of the pair.
+#[tactic(auto, using(closest_laws::proofs::Fills::next_given, closest_laws::proofs::Fills::next_missing))]
 fn next_of(pair: Pair, presence: u8, place: u8, n: u32) -> (Hits, Pair)
     requires { 0 < place }
     ensures { (gs : List (Option ℕ)) → result.0.0 ∷ fill gs (pair_view result.1) ≡ fill (given (has presence place) n ∷ gs) (pair_view pair) }
@@ -86,6 +87,7 @@ pub struct Play {
 impl Play {
     ghost use Rattle.closest.specs.Code.{play_view, best_view};
 
+    #[tactic(auto, using(closest_laws::proofs::Bits::zeroed), unfolding(closest_laws::specs::Closest::play_of, inspect::specs::Presence::unwrap_or_zero))]
     fn of(q: Query, acc: Acc) -> Play
         requires { Domain q }
         ensures { play_view result ≡ Laws.play_of (inspect_of q) acc.value }
@@ -183,6 +185,7 @@ impl Play {
     }
 
     // The best before any candidate.
+    #[tactic(auto, using(closest_laws::proofs::Steps::or_given), unfolding(closest_laws::specs::Closest::start))]
     fn start(self) -> Best
         ensures { best_view result ≡ Laws.start (play_view self) }
     {
@@ -194,6 +197,7 @@ impl Play {
         }
     }
 
+    #[tactic(auto, unfolding(closest_laws::specs::Closest::space))]
     fn min_space_needed(self) -> Hits
         ensures { result.0 ≡ Laws.space (play_view self) }
     {
@@ -201,6 +205,7 @@ impl Play {
         Hits(c.n200) + Hits(c.n100) + Hits(c.n50)
     }
 
+    #[tactic(auto, unfolding(closest_laws::specs::Closest::values320))]
     fn n320_values(self) -> RangeInclusive<u32>
         ensures { (values_of result ≡ Laws.values320 first_two (play_view self)) × (range_inclusive_end result ≤ self.remain.0) }
     {
@@ -209,6 +214,7 @@ impl Play {
         closest_points::values(n320, room, self.remain, self.target_numerator, self.w320)
     }
 
+    #[tactic(auto, using(closest_laws::proofs::Fills::minus_two), unfolding(closest_laws::specs::Closest::values300))]
     fn n300_values(self, new320: Hits) -> RangeInclusive<u32>
         requires { new320.0 ≤ self.remain.0 }
         ensures { (values_of result ≡ Laws.values300 first_two (play_view self) new320.0) × (range_inclusive_end result ≤ self.remain.0 - new320.0) }
@@ -221,6 +227,7 @@ impl Play {
     }
 
     // How far the accuracy of a candidate lies from that of the target: f64, since its rounding decides ties.
+    #[tactic(auto, unfolding(closest_laws::specs::Closest::try_at))]
     fn accuracy_distance(self, res: HitResults) -> f64
         requires { Capped res }
         ensures { result ≡ (Laws.try_at (play_view self) res).dist }
@@ -232,6 +239,7 @@ impl Play {
     }
 
     // The last three values, of the hits that are left.
+    #[tactic(auto, unfolding(closest_laws::specs::Closest::plain_optimize_last_three))]
     fn optimize_last_three(self, left: Left) -> Three
         ensures { last_view result ≡ plain_optimize_last_three first_two (play_view self).n200 (play_view self).n100 (play_view self).n50 left.remain.0 left.earned.0 left.target.0 }
     {
@@ -271,6 +279,7 @@ pub struct Best {
 impl Best {
     ghost use Rattle.closest.specs.Code.{play_view, best_view, best_try};
 
+    #[tactic(auto, unfolding(closest_laws::specs::Loops::offer))]
     fn offer(mut self, dist: f64, res: HitResults) -> Best
         ensures { best_view result ≡ offer Ieee.lt (best_try dist res) (best_view self) }
     {
@@ -282,6 +291,7 @@ impl Best {
     }
 
     // The candidate with so many n320 and n300, unless the given counts have no room.
+    #[tactic(auto, using(units::proofs::Order::lt_of), unfolding(closest_laws::specs::Closest::inner, closest_laws::specs::Loops::scan))]
     fn attempt(self, play: Play, new320: Hits, new300: Hits) -> Best
         requires { (3 ≤ lacking play.presence) × (new320.0 + new300.0 ≤ play.remain.0) }
         ensures { best_view result ≡ scan Ieee.lt (inner first_two (play_view play) new320.0 new300.0) (best_view self) }
@@ -301,6 +311,7 @@ impl Best {
     }
 
     // The candidates with so many n320.
+    #[tactic(auto, using(units::proofs::Order::lt_of), unfolding(closest_laws::specs::Closest::outer, closest_laws::specs::Loops::scan))]
     fn row(self, play: Play, new320: Hits) -> Best
         requires { (3 ≤ lacking play.presence) × (new320.0 ≤ play.remain.0) }
         ensures { best_view result ≡ scan Ieee.lt (outer first_two (play_view play) new320.0) (best_view self) }

@@ -1,7 +1,7 @@
 -- The steps of the code's search with three or more missing. Assumes nothing.
 use Prim.Native.Nat.{ℕ, ◌+◌, ◌-◌, ◌*◌, ◌^◌, ◌<◌, ◌≤◌}
 use mathlib.Core.Path.{◌≡◌, sym, ap, ◌∙◌}
-use mathlib.Core.Bool.{true, false}
+use mathlib.Core.Bool.{false}
 use mathlib.Core.List.{List}
 use native.Mathlib.Nat.{mul-le-mul_right}
 use native.Mathlib.Omega.{arith}
@@ -20,11 +20,7 @@ unfolding space
 last_few p r A l o h e = ap (λ (x : Last). sized x) e ∙ last_hits p.n200 p.n100 p.n50 r A p.target o h
 
 module _ (span : ℕ → ℕ → List ℕ) (p : Play) (x : ℕ) where
-  -- the body of the inner loop, whose test says whether the given counts have room
-  pub inner_skip : (y : ℕ) (b : Kept Float HitResults) → ltb (p.remain - (x + y)) (space p) ≡ true → b ≡ scan lt (inner span p x y) b
-  unfolding inner scan
-  inner_skip y b t = rw t
-
+  -- the body of the inner loop, where the given counts have room
   pub inner-take
       : (y : ℕ) {l : Last} {h : HitResults} {d : Float} {r : Kept Float HitResults} (b : Kept Float HitResults) → ltb (p.remain - (x + y)) (space p) ≡ false
       → l ≡ plain_optimize_last_three span p.n200 p.n100 p.n50 (p.remain - (x + y)) (p.w320 * x + 60 * y) p.target
@@ -33,11 +29,7 @@ module _ (span : ℕ → ℕ → List ℕ) (p : Play) (x : ℕ) where
   unfolding inner scan try_at plain_result_at
   inner-take y b t el eh ed er = er ∙ rw (ed, eh, el, t)
 
-  -- and of the outer
-  pub outer_skip : (b : Kept Float HitResults) → ltb (p.remain - x) (space p) ≡ true → b ≡ scan lt (outer span p x) b
-  unfolding outer scan
-  outer_skip b t = rw t
-
+  -- and that of the outer
   pub outer-take
       : (vs : List ℕ) (b r : Kept Float HitResults) → ltb (p.remain - x) (space p) ≡ false → vs ≡ values300 span p x
       → r ≡ scan lt (each vs (inner span p x)) b → r ≡ scan lt (outer span p x) b

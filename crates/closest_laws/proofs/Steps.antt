@@ -12,16 +12,7 @@ use Rattle.closest_laws.specs.Loops.{Kept, from, range, first_two, each, offer, 
 use Rattle.closest_laws.specs.Closest.{Last, last_at, values200, plain_optimize_last_three, values}
 use Rattle.closest_laws.proofs.Scan.{scan-append}
 
--- ---- an offer
-pub offer_took : {K A : Type 0} (less : K → K → Bool) (t b : Kept K A) → less t.dist b.dist ≡ true → t ≡ offer less t b
-unfolding offer
-offer_took less t b e = ap (λ (x : Bool). cond x t b) (sym e)
-
-pub offer_kept : {K A : Type 0} (less : K → K → Bool) (t b : Kept K A) → less t.dist b.dist ≡ false → b ≡ offer less t b
-unfolding offer
-offer_kept less t b e = ap (λ (x : Bool). cond x t b) (sym e)
-
--- an offer of what is read of the candidates
+-- ---- an offer of what is read of the candidates
 abbrev pub read_by : {K A B : Type 0} → (A → B) → Kept K A → Kept K B
 read_by f k = record { dist = k.dist; result = f k.result }
 

@@ -33,14 +33,11 @@ pub struct Near<A> {
 }
 
 impl<A: Copy> Near<A> {
+    #[tactic(auto, using(units::proofs::Order::lt_of), unfolding(closest_laws::specs::Loops::offer, closest_laws::specs::Loops::nearer))]
     fn offer(mut self, dist: Points, counts: A) -> Near<A>
         ensures { near_view result ≡ offer nearer (near_try dist counts) (near_view self) }
     {
-        let nearer = match self.dist {
-            Some(least) => dist < least,
-            None => true,
-        };
-        if nearer {
+        if self.dist.is_none_or(|least| dist < least) {
             self.dist = Some(dist);
             self.best = counts;
         }
@@ -60,6 +57,7 @@ pub struct TwoVars {
 }
 
 impl TwoVars {
+    #[tactic(auto, using(closest_laws::proofs::TwoMissing::solved_alike))]
     pub fn solve_two_vars(self) -> Pair
         ensures { pair_view result ≡ solve_two self.w1 self.w2 self.target.0 self.remain_hits.0 self.provided_sum.0 }
     {

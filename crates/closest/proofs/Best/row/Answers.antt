@@ -5,16 +5,11 @@ use Rattle.units.proofs.Order.{lt_of}
 use Rattle.closest_laws.specs.Loops.{first_two}
 use Rattle.closest_laws.specs.Closest.{inner}
 use Rattle.closest_laws.proofs.Steps.{each_turn, each_done}
-use Rattle.closest_laws.proofs.Search.{outer_skip, outer-take}
+use Rattle.closest_laws.proofs.Search.{outer-take}
 use Rattle.closest_points.specs.Code.{values_of}
 use Rattle.closest_points.proofs.Ranges.{value_taken, values_end}
 use Rattle.closest.specs.Code.{play_view, best_view}
 use Rattle.closest.proofs.Best.row.Goals as goal
-
-pub returns-then-lt : goal.returns-then-lt
-returns-then-lt c =
-    let x = c.args in
-    outer_skip first_two (play_view x.play) x.new320.0 (best_view x.self) (rw (← c.min_space_needed.ensures, ← c.sub.ensures) (sym (lt_of _ _ _ c.lt.ensures) ∙ c.if-lt.true))
 
 pub loop-new300-preserved : goal.loop-new300-preserved
 loop-new300-preserved c =
