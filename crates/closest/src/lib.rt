@@ -9,9 +9,9 @@ ghost use Rattle.std.specs.Range.{range_inclusive_end};
 ghost use Rattle.std.specs.Float.Ieee as Ieee;
 ghost use Rattle.units.specs.Limits.{most_weight, most_points};
 ghost use Rattle.score_state.specs.Points.{counts_of};
-ghost use Rattle.score_state.specs.Given.{missing, fill};
+ghost use Rattle.score_state.specs.Given.{option_of, missing, fill};
 ghost use Rattle.score_state.specs.Accuracy.{Capped};
-ghost use Rattle.inspect.specs.Presence.{has, given, givens_of, lacking};
+ghost use Rattle.inspect.specs.Presence.{givens_of, lacking};
 ghost use Rattle.inspect.specs.Inspect.{inspect_of};
 ghost use Rattle.inspect.specs.Checks.{Domain};
 ghost use Rattle.closest_laws.specs.Loops.{first_two, offer, scan};
@@ -22,7 +22,7 @@ ghost use Rattle.closest.specs.Answer.{answer_of};
 ghost use Rattle.closest.specs.Within.{Within};
 
 use closest_points::{Left, Pair, Three, TwoVars};
-use inspect::{Missing, Query};
+use inspect::{Missing, N50, N100, N200, N300, N320, Query, given};
 use refusals::Refusal;
 use rounding::Acc;
 use score_state::HitResults;
@@ -49,31 +49,31 @@ pub fn generate_hitresults(q: Query, acc: Acc) -> Result<HitResults, Refusal>
 }
 
 // The given count, or the next of the pair where it is missing; and what is then left of the pair.
-#[tactic(auto, using(closest_laws::proofs::Fills::next_given, closest_laws::proofs::Fills::next_missing))]
-fn next_of(pair: Pair, presence: u8, place: u8, n: u32) -> (Hits, Pair)
-    requires { 0 < place }
-    ensures { (gs : List (Option ℕ)) → result.0.0 ∷ fill gs (pair_view result.1) ≡ fill (given (has presence place) n ∷ gs) (pair_view pair) }
+#[tactic(auto, unfolding(score_state::specs::Given::fill))]
+fn next_of(pair: Pair, given: Option<u32>) -> (Hits, Pair)
+    ensures { (gs : List (Option ℕ)) → result.0.0 ∷ fill gs (pair_view result.1) ≡ fill (option_of given ∷ gs) (pair_view pair) }
 {
-    if inspect::is_given(presence, place) {
-        return (Hits(n), pair);
-    }
     let Pair(x, y) = pair;
-    (x, Pair(y, Hits(0)))
+    match given {
+        Some(n) => (Hits(n), pair),
+        None => (x, Pair(y, Hits(0))),
+    }
 }
 
 // The given counts, and the pair at the missing places in turn.
 fn fill_in(presence: u8, counts: HitResults, pair: Pair) -> HitResults
     ensures { (counts_of result ≡ fill (givens_of presence counts) (pair_view pair)) × (result.misses ≡ counts.misses) }
 {
-    let (n320, pair) = next_of(pair, presence, inspect::N320, counts.n320);
-    let (n300, pair) = next_of(pair, presence, inspect::N300, counts.n300);
-    let (n200, pair) = next_of(pair, presence, inspect::N200, counts.n200);
-    let (n100, pair) = next_of(pair, presence, inspect::N100, counts.n100);
-    let (n50, _) = next_of(pair, presence, inspect::N50, counts.n50);
+    let (n320, pair) = next_of(pair, given(presence, N320, counts.n320));
+    let (n300, pair) = next_of(pair, given(presence, N300, counts.n300));
+    let (n200, pair) = next_of(pair, given(presence, N200, counts.n200));
+    let (n100, pair) = next_of(pair, given(presence, N100, counts.n100));
+    let (n50, _) = next_of(pair, given(presence, N50, counts.n50));
     HitResults::of(n320, n300, n200, n100, n50, Hits(counts.misses))
 }
 
-// The nine arguments that the Rust's functions hand on. A missing count is 0; presence says which are.
+// The nine arguments that the Rust's functions hand on. A missing count is 0; presence says which are: numbers beside those bits, as
+// in the query (document 01, Option, Vec and the trait recast), since the match on which are missing goes by the presence number.
 #[derive(Clone, Copy)]
 pub struct Play {
     pub w320: u32,
@@ -190,7 +190,7 @@ impl Play {
         ensures { best_view result ≡ Laws.start (play_view self) }
     {
         let c = self.counts;
-        let n50 = inspect::pick(self.presence, inspect::N50, self.remain.0, c.n50);
+        let n50 = inspect::pick(self.presence, N50, self.remain.0, c.n50);
         Best {
             dist: f64::MAX,
             result: HitResults { n50, ..c },
@@ -209,7 +209,7 @@ impl Play {
     fn n320_values(self) -> RangeInclusive<u32>
         ensures { (values_of result ≡ Laws.values320 first_two (play_view self)) × (range_inclusive_end result ≤ self.remain.0) }
     {
-        let n320 = inspect::given(self.presence, inspect::N320, self.counts.n320);
+        let n320 = given(self.presence, N320, self.counts.n320);
         let room = self.remain.saturating_sub(self.min_space_needed());
         closest_points::values(n320, room, self.remain, self.target_numerator, self.w320)
     }
@@ -219,7 +219,7 @@ impl Play {
         requires { new320.0 ≤ self.remain.0 }
         ensures { (values_of result ≡ Laws.values300 first_two (play_view self) new320.0) × (range_inclusive_end result ≤ self.remain.0 - new320.0) }
     {
-        let n300 = inspect::given(self.presence, inspect::N300, self.counts.n300);
+        let n300 = given(self.presence, N300, self.counts.n300);
         let remain_after_320 = self.remain - new320;
         let room = remain_after_320.saturating_sub(self.min_space_needed());
         let target_after_320 = self.target_numerator.saturating_sub(new320 * self.w320);
