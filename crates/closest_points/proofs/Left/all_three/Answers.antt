@@ -1,24 +1,23 @@
--- `closest_points::Left::all_three`: the loop offers the candidates of its span in turn. Assumes nothing.
-use mathlib.Core.Path.{ap, ◌≡◌, ◌∙◌}
-use native.Mathlib.Omega.{arith}
+-- `closest_points::Left::all_three`: the loop offers the candidates of its values in turn. Assumes nothing.
+use mathlib.Core.Path.{ap, ◌∙◌}
 use Rattle.closest_laws.specs.Loops.{scan, nearer}
-use Rattle.closest_laws.proofs.Steps.{loop_turn, loop_none, loop_last, all-is}
-use Rattle.closest_points.specs.Code.{last_view, near_by}
+use Rattle.closest_laws.proofs.Steps.{each_turn, each_done, all-is}
+use Rattle.closest_points.specs.Code.{values_of, last_view, near_by}
+use Rattle.closest_points.proofs.Ranges.{value_taken, values_end}
 use Rattle.closest_points.proofs.Left.all_three.Goals as goal
 use Rattle.closest_points.proofs.Left.all_three.Invariants.{tries}
-use Rattle.closest_points.proofs.Left.all_three.Goals.{else-loop-new200-test, then-loop-new200-test+else-new200-new200-end}
 
 pub loop-new200-preserved : goal.loop-new200-preserved
 unfolding scan
-loop-new200-preserved c = loop_turn nearer (tries c.args.self) _ _ _ _ _ c.loop-new200-test.true c.last_at-near.ensures c.loop-new200.invariant
+loop-new200-preserved c =
+    let step = c.in-Some.ensures.steps in (
+      each_turn nearer (tries c.args.self) _ _ _ _ _ _ (value_taken c.loop-new200.new200-iterator c.next.new.self c.in-Some.new200 step) c.last_at-near.ensures c.loop-new200.invariant.0,
+      rw step.0 c.loop-new200.invariant.1,
+    )
 
 pub returns : goal.returns
-unfolding scan
 returns c =
     let s = c.args.self in
-    all-is s.remain.0 s.earned.0 s.target.0 c.n200_values-span.result.lo.0 c.n200_values-span.result.hi.0 (near_by last_view c.loop-new200-test.near) c.n200_values-span.ensures.0
-    (elim c.loop-new200-test.branch [
-      | else-loop-new200-test w ↦ ap (near_by last_view) w.near-is ∙ loop_none nearer (tries s) _ _ _ _ w.loop-new200-test.false c.loop-new200.invariant
-      | then-loop-new200-test+else-new200-new200-end w ↦
-          ap (near_by last_view) w.near-is ∙ loop_last nearer (tries s) _ _ _ _ _ w.loop-new200-test.true (omega arith) w.last_at-near.ensures c.loop-new200.invariant
-    ])
+    all-is s.remain.0 s.earned.0 s.target.0 (values_of c.into_iter-new200-iterator.result) (near_by last_view c.loop-new200.near)
+    (ap values_of c.into_iter-new200-iterator.ensures.into_iter_gives ∙ c.n200_values-new200-items.ensures.0)
+    (each_done nearer (tries s) _ _ _ (values_end c.loop-new200.new200-iterator c.next.new.self c.in-None.ensures.steps) c.loop-new200.invariant.0)

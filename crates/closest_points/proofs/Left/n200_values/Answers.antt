@@ -8,8 +8,8 @@ use Rattle.closest_points.proofs.Left.n200_values.Goals as goal
 pub returns : goal.returns
 returns c =
     let most = min_of c.args.self.remain c.add-2.result _ c.min-max200.ensures in
-    let hi = min_of c.min-max200.result c.add-3.result _ c.min.ensures in (
-      two_values (c.steps.ensures.0 ∙ rw (c.saturating_sub-min_raw.ensures, c.add.ensures, c.mul.ensures))
-          (most ∙ rw (c.add-2.ensures, c.div_ceil.ensures.0, c.saturating_sub-max_raw.ensures)) (hi ∙ rw c.add-3.ensures),
-      omega (arith, hi, most),
+    let second = min_of c.min-max200.result c.add-3.result _ c.min-second.ensures in (
+      rw (c.new.ensures.exhausted, c.new.ensures.start, c.new.ensures.end) (two_values (c.steps.ensures.0 ∙ rw (c.saturating_sub-min_raw.ensures, c.add.ensures, c.mul.ensures))
+          (most ∙ rw (c.add-2.ensures, c.div_ceil.ensures.0, c.saturating_sub-max_raw.ensures)) (second ∙ rw c.add-3.ensures)),
+      omega (arith, c.new.ensures.end, second, most),
     )
