@@ -5,7 +5,7 @@ use borrow.Author.Rules.{rules}
 use lib.ListN.{length}
 use Rattle.std.specs.Prelude.{Ok}
 use Rattle.std.proofs.lemmas.Result.{err_from_is_err_and}
-use Rattle.text.proofs.Written.{at_start}
+use Rattle.text.proofs.Written.{size, whole}
 use Rattle.typed_sheet.specs.Typed.{typed_sheet, Says}
 use Rattle.typed_sheet.proofs.Tallies.{fine}
 use Rattle.typed_sheet.proofs.Whole.{at_fault, too_short, in_full, sheet-length}
@@ -31,7 +31,8 @@ returns c =
     let t = c.in_ok-t.t in
     let text = c.new-sheet.ensures in
     let e = sym c.tally_text.ensures.value ∙ c.in_ok-t.was in
-    let sheet = at_start c.write_sheet.ensures text.empty text.bytes c.len.ensures in
+    let written = c.write_sheet.ensures in
+    let z = sym (size written text.empty text.bytes c.len.ensures) ∙ sheet-length x.text.now t (fine x.text.now t e) in
     let says : Says (typed_sheet x.text.now x.out.now) (Ok c.len.result) c.write_sheet.new.out.bytes.now =
-    in_full x.text.now x.out.now t e c.if-out-size.false c.len.result c.write_sheet.new.out.bytes.now (sheet-length x.text.now t (fine x.text.now t e)) sheet in
+    in_full x.text.now x.out.now t e c.if-out-size.false c.len.result c.write_sheet.new.out.bytes.now z (whole written text.empty text.bytes c.len.ensures) in
     search rules
