@@ -11,8 +11,7 @@ use lib.Dec.{ltb}
 use lib.ListN.{length, drop, length-append}
 use borrow.Author.Tests.{lt-ltb, le-ltb, eq-eqb, ne_eqb, ltb-true, ltb-false}
 use Rattle.io.specs.Counts.{IsPrefixLen}
-use Rattle.lists.specs.Lists.{put, joined}
-use Rattle.text.specs.Text.{Appended}
+use Rattle.lists.specs.Lists.{joined}
 use Rattle.inspect.specs.declared.Chart.{Chart}
 use Rattle.score_state.specs.declared.Weights.{Weights}
 use Rattle.records.specs.Records.{chart_at, weights_at, row_at}
@@ -96,13 +95,10 @@ module _ (s out : List ℕ) where
       unfolding sheet_text
       too_short k = rw (z, le-ltb (first_stopped s) (query_count s) h, lt-ltb (length out) (length (text_of s)) k) (record { answers = refl; holds = refl })
 
-      pub written : length (text_of s) ≤ length out → (size : ℕ) (out' : List ℕ) → Appended out 0 out' size (text_of s) → Says (sheet_text s out) (Text size) out'
-      unfolding sheet_text put
-      written k size out' a =
-          let e : size ≡ length (text_of s) = a.ends ∙ omega arith in
-          let d : 0 + length (text_of s) ≡ length (text_of s) = omega arith in
-          rw (z, le-ltb (first_stopped s) (query_count s) h, le-ltb (length out) (length (text_of s)) k)
-          (record { answers = ap Text e; holds = a.bytes ∙ ap (λ (m : ℕ). text_of s ++ drop m out) d })
+      pub written : length (text_of s) ≤ length out → (size : ℕ) (out' : List ℕ) → length (text_of s) ≡ size → out' ≡ text_of s ++ drop size out → Says (sheet_text s out) (Text size) out'
+      unfolding sheet_text
+      written k size out' e a =
+          rw (z, le-ltb (first_stopped s) (query_count s) h, le-ltb (length out) (length (text_of s)) k) (record { answers = ap Text (sym e); holds = a ∙ ap (λ (m : ℕ). text_of s ++ drop m out) (sym e) })
 
 -- the length that is answered counts bytes of the output
 pub text_counts : (r : SheetText) (n : ℕ) (out : List ℕ) → r ≡ Text n → Counted r out → IsPrefixLen n out

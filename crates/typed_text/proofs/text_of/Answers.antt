@@ -3,7 +3,7 @@ use Prim.Native.Nat.{◌≤◌}
 use native.Mathlib.Omega.{arith}
 use borrow.Author.Rules.{rules}
 use lib.ListN.{length}
-use Rattle.text.proofs.Written.{restated, at_start, counted}
+use Rattle.text.proofs.Written.{restated, size, whole, counted}
 use Rattle.sheets_laws.specs.Sheets.{query_count}
 use Rattle.typed_text.specs.SheetText.{first_stopped, text_of, sheet_text, Says}
 use Rattle.typed_text.specs.declared.SheetText.TheVariants.{Text}
@@ -47,6 +47,6 @@ returns c =
     let text = c.new-text.ensures in
     let w = restated c.write_lines.ensures (all_lines x.sheet.now p h) in
     let all : Says (sheet_text x.sheet.now x.out.now) (Text c.len.result) c.write_lines.new.text.bytes.now =
-    written x.sheet.now x.out.now h.accepted q k c.len.result c.write_lines.new.text.bytes.now (at_start w text.empty text.bytes c.len.ensures) in
+    written x.sheet.now x.out.now h.accepted q k c.len.result c.write_lines.new.text.bytes.now (size w text.empty text.bytes c.len.ensures) (whole w text.empty text.bytes c.len.ensures) in
     let within = counted w text.empty text.bytes c.len.ensures in
     record { outcome = search rules; counted = search rules }
