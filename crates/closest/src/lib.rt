@@ -3,11 +3,10 @@
 // change the answer, as crate `closest_laws` proves.
 #![tactic(auto)]
 
-ghost use Rattle.std.specs.Prelude.{◌≡◌, List, [], ◌∷◌, ℕ, ◌+◌, ◌-◌, ◌*◌, ◌<◌, ◌≤◌};
+ghost use Rattle.std.specs.Prelude.{◌≡◌, List, [], ◌∷◌, ℕ, ◌+◌, ◌-◌, ◌≤◌};
 ghost use Rattle.std.proofs.Math.Option.{Option};
 ghost use Rattle.std.specs.Range.{range_inclusive_end};
 ghost use Rattle.std.specs.Float.Ieee as Ieee;
-ghost use Rattle.units.specs.Limits.{most_weight, most_points};
 ghost use Rattle.score_state.specs.Points.{counts_of};
 ghost use Rattle.score_state.specs.Given.{option_of, missing, fill};
 ghost use Rattle.score_state.specs.Accuracy.{Capped};
@@ -21,7 +20,7 @@ ghost use Rattle.closest_points.specs.Code.{values_of, pair_view, last_view};
 ghost use Rattle.closest.specs.Answer.{answer_of};
 ghost use Rattle.closest.specs.Within.{Within};
 
-use closest_points::{Left, Pair, Three, TwoVars};
+use closest_points::{LastThree, Pair, Three, TwoVars};
 use inspect::{Missing, N50, N100, N200, N300, N320, Query, given};
 use refusals::Refusal;
 use rounding::Acc;
@@ -240,10 +239,10 @@ impl Play {
 
     // The last three values, of the hits that are left.
     #[tactic(auto, unfolding(closest_laws::specs::Closest::plain_optimize_last_three))]
-    fn optimize_last_three(self, left: Left) -> Three
-        ensures { last_view result ≡ plain_optimize_last_three first_two (play_view self).n200 (play_view self).n100 (play_view self).n50 left.remain.0 left.earned.0 left.target.0 }
+    fn optimize_last_three(self, last: LastThree) -> Three
+        ensures { last_view result ≡ plain_optimize_last_three first_two (play_view self).n200 (play_view self).n100 (play_view self).n50 last.remain.0 last.earned.0 last.target.0 }
     {
-        let remain = left.remain;
+        let remain = last.remain;
         let n2 = Hits(self.counts.n200);
         let n1 = Hits(self.counts.n100);
         let n5 = Hits(self.counts.n50);
@@ -253,18 +252,18 @@ impl Play {
             0b101 => Three(n2, remain.saturating_sub(n2 + n5), n5),
             0b110 => Three(remain.saturating_sub(n1 + n5), n1, n5),
             0b001 => {
-                let Pair(n100, n50) = left.two_of_last(n2, 40, 10, 10);
+                let Pair(n100, n50) = last.two_of_last(n2, 40, 10, 10);
                 Three(n2, n100, n50)
             }
             0b010 => {
-                let Pair(n200, n50) = left.two_of_last(n1, 20, 10, 30);
+                let Pair(n200, n50) = last.two_of_last(n1, 20, 10, 30);
                 Three(n200, n1, n50)
             }
             0b100 => {
-                let Pair(n200, n100) = left.two_of_last(n5, 10, 20, 20);
+                let Pair(n200, n100) = last.two_of_last(n5, 10, 20, 20);
                 Three(n200, n100, n5)
             }
-            _ => left.all_three(),
+            _ => last.all_three(),
         }
     }
 }
@@ -300,12 +299,12 @@ impl Best {
         if remain_after_300 < play.min_space_needed() {
             return self;
         }
-        let left = Left {
+        let last = LastThree {
             remain: remain_after_300,
             earned: new320 * play.w320 + new300 * 60,
             target: play.target_numerator,
         };
-        let Three(n200, n100, n50) = play.optimize_last_three(left);
+        let Three(n200, n100, n50) = play.optimize_last_three(last);
         let result = HitResults::of(new320, new300, n200, n100, n50, Hits(play.counts.misses));
         self.offer(play.accuracy_distance(result), result)
     }

@@ -41,6 +41,6 @@ near_view b = record { dist = dist_view b.dist; result = b.best }
 abbrev pub near_try : {A : Type 0} → Points → A → Kept (Option ℕ) A
 near_try d t = record { dist = some d.0; result = t }
 
--- what `lo..=hi` has left to run through
+-- document 01, Option, Vec and the trait recast: "`Vec` ranges become loops". What the range `lo..=hi` of such a loop has left to run through.
 abbrev pub values_of : RangeInclusive ℕ → List ℕ
 values_of r = cond (range_inclusive_exhausted r) [] (range (range_inclusive_start r) (range_inclusive_end r))

@@ -5,13 +5,13 @@
 
 ghost use Rattle.std.specs.Prelude.{◌≡◌, [], ◌∷◌, ◌+◌, ◌-◌, ◌*◌, ◌/◌, ◌<◌, ◌≤◌};
 ghost use Rattle.std.proofs.Math.Option.{none};
+ghost use Rattle.std.specs.Range.{range_inclusive_end};
 ghost use Rattle.rounding.specs.Quotient.{rounded_up};
 ghost use Rattle.units.specs.Limits.{most32, most_hits, most_weight, most_points};
 ghost use Rattle.score_state.specs.Given.{option_of};
 ghost use Rattle.closest_laws.specs.Loops.{first_two, offer, nearer};
 ghost use Rattle.closest_laws.specs.Closest as Laws;
 ghost use Rattle.closest_laws.specs.Closest.{split_at, best_split, solve_two, last_at, plain_optimize_last_three};
-ghost use Rattle.std.specs.Range.{range_inclusive_end};
 ghost use Rattle.closest_points.specs.Code.{values_of, TwoOfLast, pair_view, last_view, near_view, near_by, near_try};
 
 use std::ops::RangeInclusive;
@@ -130,16 +130,16 @@ pub fn values(
     }
 }
 
-// The hits that are left for the last three counts, with so many points earned.
+// The last three counts: the hits that remain for them, with so many points earned by those before.
 #[derive(Clone, Copy)]
-pub struct Left {
+pub struct LastThree {
     pub remain: Hits,
     pub earned: Points,
     pub target: Points,
     pub ghost bounds: { (earned.0 + most_weight * remain.0 ≤ most_points) × (target.0 ≤ most_points) },
 }
 
-impl Left {
+impl LastThree {
     // One of the three is given, n of this weight; the others weigh light and light + step.
     pub fn two_of_last(self, n: Hits, weight: u32, light: u32, step: u32) -> Pair
         requires { (self.earned.0 + weight * n.0 + light * self.remain.0 ≤ most32) × (0 < step) × (step ≤ most_weight) }
@@ -180,12 +180,12 @@ impl Left {
 
 impl Near<Three> {
     // n200 of the hits are n200; n100 comes by rounding, and n50 is the rest.
-    fn last_at(self, left: Left, n200: Hits) -> Near<Three>
-        requires { n200.0 ≤ left.remain.0 }
-        ensures { near_by last_view result ≡ offer nearer (last_at left.remain.0 left.earned.0 left.target.0 n200.0) (near_by last_view self) }
+    fn last_at(self, last: LastThree, n200: Hits) -> Near<Three>
+        requires { n200.0 ≤ last.remain.0 }
+        ensures { near_by last_view result ≡ offer nearer (last_at last.remain.0 last.earned.0 last.target.0 n200.0) (near_by last_view self) }
     {
-        let Pair(n100, n50) = left.two_of_last(n200, 40, 10, 10);
-        let score = left.earned + (n200 * 40 + n100 * 20 + n50 * 10);
-        self.offer(score.gap(left.target), Three(n200, n100, n50))
+        let Pair(n100, n50) = last.two_of_last(n200, 40, 10, 10);
+        let score = last.earned + (n200 * 40 + n100 * 20 + n50 * 10);
+        self.offer(score.gap(last.target), Three(n200, n100, n50))
     }
 }

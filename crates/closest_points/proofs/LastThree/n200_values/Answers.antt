@@ -1,9 +1,9 @@
--- `closest_points::Left::n200_values`: the first two values of n200. Assumes nothing.
+-- `closest_points::LastThree::n200_values`: the first two values of n200. Assumes nothing.
 use mathlib.Core.Path.{◌∙◌}
 use native.Mathlib.Omega.{arith}
 use Rattle.units.proofs.Order.{min_of}
 use Rattle.closest_laws.proofs.Steps.{two_values}
-use Rattle.closest_points.proofs.Left.n200_values.Goals as goal
+use Rattle.closest_points.proofs.LastThree.n200_values.Goals as goal
 
 pub returns : goal.returns
 returns c =

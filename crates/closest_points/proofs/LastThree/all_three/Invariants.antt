@@ -5,12 +5,12 @@ use mathlib.Core.Option.{Option}
 use Rattle.std.specs.Range.{range_inclusive_end}
 use Rattle.closest_laws.specs.Loops.{Kept, each, scan, nearer}
 use Rattle.closest_laws.specs.Closest.{Last, last_at}
-use Rattle.closest_points.specs.declared.Left.{Left}
+use Rattle.closest_points.specs.declared.LastThree.{LastThree}
 use Rattle.closest_points.specs.Code.{values_of, last_view, near_by}
-use Rattle.closest_points.proofs.Left.all_three.Given as goal
+use Rattle.closest_points.proofs.LastThree.all_three.Given as goal
 
 -- the candidate with so many n200
-abbrev pub tries : Left → ℕ → List (Kept (Option ℕ) Last)
+abbrev pub tries : LastThree → ℕ → List (Kept (Option ℕ) Last)
 tries s n = last_at s.remain.0 s.earned.0 s.target.0 n ∷ []
 
 abbrev pub invariant-loop-new200 : goal.invariant-loop-new200

@@ -1,11 +1,11 @@
--- `closest_points::Left::all_three`: the loop offers the candidates of its values in turn. Assumes nothing.
+-- `closest_points::LastThree::all_three`: the loop offers the candidates of its values in turn. Assumes nothing.
 use mathlib.Core.Path.{ap, ◌∙◌}
 use Rattle.closest_laws.specs.Loops.{scan, nearer}
 use Rattle.closest_laws.proofs.Steps.{each_turn, each_done, all-is}
 use Rattle.closest_points.specs.Code.{values_of, last_view, near_by}
 use Rattle.closest_points.proofs.Ranges.{value_taken, values_end}
-use Rattle.closest_points.proofs.Left.all_three.Goals as goal
-use Rattle.closest_points.proofs.Left.all_three.Invariants.{tries}
+use Rattle.closest_points.proofs.LastThree.all_three.Goals as goal
+use Rattle.closest_points.proofs.LastThree.all_three.Invariants.{tries}
 
 pub loop-new200-preserved : goal.loop-new200-preserved
 unfolding scan
