@@ -10,7 +10,7 @@ ghost use Rattle.typed_answer.specs.Answers.Answer.{made};
 
 use std::io::{Read, Stderr, Stdin, Stdout, Write};
 use streams::Input;
-use typed_answer::Made;
+use typed_answer::Told;
 
 // The longest text that is read.
 const MOST_TEXT: usize = 262144;
@@ -57,13 +57,13 @@ pub fn make_from<R: Read, O: Write, E: Write>(input: &mut R, output: &mut O, err
     let mut sheet = [0u8; typed_answer::SHEET_ROOM];
     let mut message = [0u8; fault_text::ROOM];
     match typed_answer::sheet_or_fault(&text[..n], &mut sheet, &mut message) {
-        Made::Bytes(end) => streams::write_text(
+        Ok(end) => streams::write_text(
             output,
             errors,
             &sheet[..end],
             b"type_sheet: cannot write the sheet\n",
         ),
-        Made::Fault(end) => streams::failed(errors, &message[..end]),
+        Err(Told(end)) => streams::failed(errors, &message[..end]),
     }
 }
 
@@ -83,13 +83,13 @@ pub fn print_from<R: Read, O: Write, E: Write>(
     let mut table = [0u8; table::ROOM];
     let mut message = [0u8; fault_text::ROOM];
     match typed_answer::table_or_fault(&text[..n], &mut table, &mut message) {
-        Made::Bytes(end) => streams::write_text(
+        Ok(end) => streams::write_text(
             output,
             errors,
             &table[..end],
             b"typed: cannot write the table\n",
         ),
-        Made::Fault(end) => streams::failed(errors, &message[..end]),
+        Err(Told(end)) => streams::failed(errors, &message[..end]),
     }
 }
 
