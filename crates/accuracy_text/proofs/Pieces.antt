@@ -9,6 +9,7 @@ use native.Mathlib.Omega.{arith}
 use lib.ListN.{length, take, drop, set}
 use lib.Seq.{set_split, drop_at, drop-drop, take-length, length-take-le}
 use Rattle.text.specs.Text.{decimal_text}
+use Rattle.std.specs.Prelude.{Option}
 use Rattle.percent.specs.declared.Percentage.{Percentage}
 use Rattle.percent.specs.Percent.{shortest}
 use Rattle.accuracy_text.specs.AccuracyText.{spaced, hex_letter, last_digits, behind_text, percent_text, words_by, accuracy_words}
@@ -105,6 +106,6 @@ module _ (given : Bool) (bits : ℕ) where
   unfolding accuracy_words
   words-none g = rw g
 
-  pub words-by : (p : Percentage) → given ≡ true → p ≡ shortest bits → words_by p bits ≡ accuracy_words given bits
+  pub words-by : (p : Option Percentage) → given ≡ true → p ≡ shortest bits → words_by p bits ≡ accuracy_words given bits
   unfolding accuracy_words
   words-by p g e = rw (g, e)
