@@ -5,8 +5,6 @@ ghost use Rattle.std.specs.Prelude.{◌≡◌, [], ◌∷◌, ◌+◌, ◌*◌, 
 ghost use Rattle.text.specs.Text.{Appended};
 ghost use Rattle.accuracy_text.specs.AccuracyText.{spaced, hex_letter, last_digits, percent_text, words_by, accuracy_words};
 
-use percent::Percentage;
-
 // A space and a word.
 pub fn put_word(text: &mut [u8], at: usize, word: &[u8]) -> usize
     requires { at + 1 + length word.now ≤ length text.old }
@@ -105,9 +103,9 @@ pub fn put_accuracy(text: &mut [u8], at: usize, given: bool, bits: u64) -> usize
         return at;
     }
     match percent::percentage_of(bits) {
-        Some(Percentage { digits, places }) => {
+        Some(p) => {
             let name_end = put_word(text, at, b"acc");
-            put_percent(text, name_end, digits, places)
+            put_percent(text, name_end, p.digits, p.places)
         }
         None => put_bits(text, at, bits),
     }
