@@ -20,10 +20,12 @@ returns c =
     let w = c.work_sheet in
     let text = c.match-work_sheet in
     let p : Gained c.new-text.result text.text (printed_of c.args.sheet.now) =
-    elim text.branch
-    [ in-Worked a ↦ rw a.text-is (restated a.put_table.ensures (by_case c.args.sheet.now w.new.out w.result _ a.in-Worked.is w.ensures.equation))
-    | in-Refused a ↦ rw a.text-is (restated a.put_refused.ensures (by_case c.args.sheet.now w.new.out w.result _ a.in-Refused.is w.ensures.equation)) ] in
+    elim text.branch [
+      | in-Worked a ↦ rw a.text-is (restated a.put_table.ensures (by_case c.args.sheet.now w.new.out w.result _ a.in-Worked.is w.ensures.equation))
+      | in-Refused a ↦ rw a.text-is (restated a.put_refused.ensures (by_case c.args.sheet.now w.new.out w.result _ a.in-Refused.is w.ensures.equation))
+    ] in
     record {
       counted = search rules;
       printed = front p c.new-text.ensures.empty c.new-text.ensures.bytes c.len.ensures;
-      beyond = beyond p c.new-text.ensures.empty c.new-text.ensures.bytes c.len.ensures }
+      beyond = beyond p c.new-text.ensures.empty c.new-text.ensures.bytes c.len.ensures;
+    }
