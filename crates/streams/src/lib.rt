@@ -31,7 +31,7 @@ fn fill<R: Read>(reader: &mut R, buf: &mut [u8]) -> (usize, Result<()>)
 }
 
 // Reads to the end of the input, or until the buffer is full.
-fn read_all<R: Read>(reader: &mut R, buf: &mut [u8]) -> Result<usize>
+pub fn read_all<R: Read>(reader: &mut R, buf: &mut [u8]) -> Result<usize>
     ensures in_bounds { IfOk result (λ n. IsPrefixLen n buf.new) }
     ensures took { IfOk result (λ n. Took (R.remaining reader.old) (R.remaining reader.new) buf.new n) }
 {

@@ -1,6 +1,6 @@
 -- Laws of `Gained`: no piece, a byte, a copy, one piece followed by another, and a text that was begun in a buffer.
 -- Assumes nothing.
-use mathlib.Core.Path.{◌≡◌, ap, sym, subst, refl, ◌∙◌}
+use mathlib.Core.Path.{◌≡◌, ap, subst, refl, ◌∙◌}
 use mathlib.Core.List.{List, [], ◌∷◌, ◌++◌}
 use Prim.Native.Nat.{ℕ, ◌+◌, ◌≤◌}
 use native.Mathlib.Numerals.{add-one}

@@ -1,5 +1,5 @@
 -- What `streams::pass` handed on is what it read.
-use Rattle.std.proofs.Common.{rules, arith, refl, take}
+use Rattle.std.proofs.Common.{rules, refl, take}
 use Rattle.streams.specs.Input.{Answers, Gives}
 use Rattle.streams.proofs.Written.{anyway}
 use Rattle.streams.proofs.pass.Goals as goal

@@ -1,9 +1,7 @@
 -- `text::Text::put_decimal` meets its contract. Assumes nothing.
-use Prim.Native.Nat.{◌≤◌, ◌<◌}
-use lib.ListN.{length}
+use Prim.Native.Nat.{◌<◌}
 use native.Mathlib.Omega.{arith}
 use borrow.Author.Rules.{rules}
-use Rattle.text.specs.Text.{decimal_text}
 use Rattle.text.proofs.Decimal.{text_within}
 use Rattle.text.proofs.Text.put_decimal.Goals as goal
 
