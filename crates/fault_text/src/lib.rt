@@ -53,20 +53,7 @@ fn put_word(text: &mut [u8], at: usize, word: &[u8]) -> usize
 }
 
 // What stands behind the word; of a missing value nothing does.
-#[tactic(auto, unfolding(
-    crate::specs::FaultText::phrase_of,
-    crate::specs::FaultText::later_phrase,
-    crate::specs::FaultText::begins_no_line,
-    crate::specs::FaultText::one_too_many,
-    crate::specs::FaultText::no_option,
-    crate::specs::FaultText::given_twice,
-    crate::specs::FaultText::no_whole_number,
-    crate::specs::FaultText::too_large,
-    crate::specs::FaultText::no_percentage,
-    crate::specs::FaultText::not_hex,
-    crate::specs::FaultText::no_method,
-    crate::specs::FaultText::one_line_too_many
-))]
+#[tactic(auto, unfolding(crate::specs::FaultText::phrase_of, crate::specs::FaultText::later_phrase, crate::specs::FaultText::begins_no_line, crate::specs::FaultText::one_too_many, crate::specs::FaultText::no_option, crate::specs::FaultText::given_twice, crate::specs::FaultText::no_whole_number, crate::specs::FaultText::too_large, crate::specs::FaultText::no_percentage, crate::specs::FaultText::not_hex, crate::specs::FaultText::no_method, crate::specs::FaultText::one_line_too_many))]
 fn phrase_of(fault: Fault) -> Option<&'static [u8]>
     ensures none { IfNone result (fault ≡ ValueMissing) }
     ensures some { IfSome result (λ p. (eqb (fault_number fault) 5 ≡ false) × (p.now ≡ phrase_of (fault_number fault)) × (length p.now ≤ 26)) }
@@ -82,7 +69,8 @@ fn phrase_of(fault: Fault) -> Option<&'static [u8]>
         Fault::NoPercentage => b" is no percentage",
         Fault::NotHex => b" is not sixteen hex digits",
         Fault::NoMethod => b" is no method",
-        Fault::TooManyCharts | Fault::TooManyWeights | Fault::TooManyPlays => b" is one line too many",
+        Fault::TooManyCharts | Fault::TooManyWeights | Fault::TooManyPlays =>
+            b" is one line too many",
     };
     Some(phrase)
 }
