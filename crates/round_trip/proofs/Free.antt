@@ -3,8 +3,7 @@
 use mathlib.Core.Path.{◌≡◌, refl, ap, ◌∙◌}
 use mathlib.Core.List.{List, [], ◌∷◌, ◌++◌}
 use mathlib.Core.Bool.{Bool, true, false, cond}
-use Prim.Native.Nat.{ℕ, ◌-◌}
-use lib.Dec.{eqb, ltb}
+use Prim.Native.Nat.{ℕ}
 use lib.ListN.{length, get_or}
 use Rattle.words.specs.Lines.{Part, unended}
 use Rattle.words.specs.Words.{words_from, words}
@@ -18,7 +17,7 @@ use Rattle.typed_line.specs.declared.Want.{Want}
 use Rattle.typed_line.specs.declared.Want.TheVariants.{FirstWord, Nothing, OptionName, Value}
 use Rattle.typed_line.specs.declared.Line.{Line}
 use Rattle.typed_line.specs.Keywords.{kind_of, option_of}
-use Rattle.typed_line.specs.Line.{span, fresh, noted, told, opens, field_of, named, names, value_for, fills, judged_as, judged, takes, takes_all, lacks, closed, read_of, line_of}
+use Rattle.typed_line.specs.Line.{span, fresh, noted, opens, field_of, named, names, value_for, fills, judged_as, judged, takes, takes_all, lacks, closed, read_of, line_of}
 use Rattle.typed_records.specs.Records.{value_bytes, presence, named_bytes, given_bytes, tail_bytes, play_bytes, bytes_by, record_bytes}
 use Rattle.accuracy_text.specs.AccuracyText.{spaced}
 use Rattle.round_trip.proofs.Words.{texts, word, all_words, words_back, in-line, unended-same}

@@ -3,7 +3,7 @@
 use mathlib.Core.Path.{◌≡◌, refl, sym, ap, ◌∙◌}
 use mathlib.Core.List.{List, [], ◌∷◌, ◌++◌}
 use mathlib.Core.Bool.{Bool, true, false, cond}
-use Prim.Native.Nat.{ℕ, ◌+◌, ◌-◌, ◌≤◌, ◌<◌}
+use Prim.Native.Nat.{ℕ, ◌≤◌, ◌<◌}
 use native.Mathlib.Omega.{arith}
 use lib.Dec.{eqb, ltb}
 use lib.ListN.{get_or, set, replicate}
@@ -17,9 +17,9 @@ use Rattle.records.specs.declared.Row.{Row}
 use Rattle.typed_line.specs.declared.Kind.{Kind}
 use Rattle.typed_line.specs.declared.Kind.TheVariants.{Chart, Weights, Play}
 use Rattle.typed_line.specs.declared.PlayOption.{PlayOption}
-use Rattle.typed_line.specs.declared.PlayOption.TheVariants.{Valued, Best, Worst, Classic}
+use Rattle.typed_line.specs.declared.PlayOption.TheVariants.{Valued, Worst, Classic}
 use Rattle.typed_line.specs.declared.Want.{Want}
-use Rattle.typed_line.specs.declared.Want.TheVariants.{FirstWord, Nothing, OptionName, Value}
+use Rattle.typed_line.specs.declared.Want.TheVariants.{Nothing, OptionName, Value}
 use Rattle.typed_line.specs.declared.Line.{Line}
 use Rattle.typed_line.specs.Keywords.{chart, weights, play, ignore, fast, closest, nearest, n320, n300, n200, n100, n50, misses, acc, passed, holds, accbits, best, worst, classic, kind_of, method_of, option_of}
 use Rattle.typed_line.specs.Line.{span, fresh, field_of, named, names, value_for, slot, after, fills, judged_as, judged}

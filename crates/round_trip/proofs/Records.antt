@@ -3,24 +3,24 @@
 use mathlib.Core.Path.{◌≡◌, refl, sym, ap, ◌∙◌}
 use mathlib.Core.List.{List, [], ◌∷◌, ◌++◌}
 use mathlib.Core.Bool.{Bool, true, false, not, cond, ◌&&◌, ◌||◌}
-use Prim.Native.Nat.{ℕ, zero, suc, ◌+◌, ◌-◌, ◌*◌, ◌/◌, ◌%◌, ◌≤◌, ◌<◌}
+use Prim.Native.Nat.{ℕ, ◌+◌, ◌*◌, ◌/◌, ◌%◌, ◌≤◌, ◌<◌}
 use native.Mathlib.Nat.{add-mul-mod_self_left}
 use native.Mathlib.Omega.{arith}
 use lib.Dec.{eqb, ltb}
-use lib.ListN.{length, get_or, take, drop}
+use lib.ListN.{length, take, drop}
 use lib.Seq.{take-add, drop-drop}
 use borrow.Author.Tests.{eqb-true, eqb-false, ltb-false}
 use Rattle.little_endian.specs.Bytes.{byte, u16_at, u32_at, u64_at, bytes4}
 use Rattle.words.proofs.Sizes.{here}
 use Rattle.inspect.specs.Presence.{has}
-use Rattle.records.specs.Records.{chart_at, weights_at, row_at}
+use Rattle.records.specs.Records.{row_at}
 use Rattle.records.specs.declared.Row.{Row}
 use Rattle.row_checks.specs.RowChecks.{left_over, holds_left, fields_left, unknown_row}
 use Rattle.std.specs.Prelude.{is_some}
 use Rattle.std.specs.Option.{unwrap_or}
 use Rattle.typed_line.specs.declared.Line.{Line}
-use Rattle.typed_records.specs.Records.{flag, value_bytes, presence, named_bytes, given_bytes, tail_bytes, play_bytes, record_bytes}
-use Rattle.round_trip.proofs.Lines.{line, opt, chart_line, weights_line, Small, play_line}
+use Rattle.typed_records.specs.Records.{value_bytes, presence, named_bytes, given_bytes, tail_bytes, play_bytes, record_bytes}
+use Rattle.round_trip.proofs.Lines.{opt, chart_line, weights_line, Small, play_line}
 
 -- ---- parts of a list
 abbrev pub piece : List ℕ → ℕ → ℕ → List ℕ

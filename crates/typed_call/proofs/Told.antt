@@ -9,7 +9,7 @@ use borrow.Author.Tests.{lt-ltb, le-ltb}
 use Rattle.typed_sheet.specs.Typed.{Says, typed_sheet}
 use Rattle.std.specs.Prelude.{Result}
 use Rattle.typed_sheet.specs.declared.TypedError.{TypedError}
-use Rattle.typed_call.specs.Told.{status_of, numbers_of, Lent, lent_by, sheet_told}
+use Rattle.typed_call.specs.Told.{status_of, numbers_of, lent_by, sheet_told}
 
 pub set-one : (xs : List ℕ) (a : ℕ) → 1 ≤ length xs → set xs 0 a ≡ a ∷ drop 1 xs
 set-one [] a h = absurd (omega arith)

@@ -1,11 +1,9 @@
 -- The four low bytes of a number, and how many bytes a record has.
 -- Assumes nothing.
 use mathlib.Core.Path.{◌≡◌, refl, ap, sym, ◌∙◌}
-use mathlib.Core.Bool.{Bool, true, false}
 use Prim.Native.Nat.{ℕ, ◌+◌, ◌*◌, ◌/◌, ◌%◌, ◌<◌}
 use native.Mathlib.Nat.{add-mul-div_left, add-mul-mod_self_left}
 use native.Mathlib.Omega.{arith}
-use lib.Dec.{eqb}
 use lib.ListN.{length}
 use Rattle.little_endian.specs.Bytes.{bytes4}
 use Rattle.std.specs.Prelude.{Option, Some, None}

@@ -2,18 +2,17 @@
 -- Assumes nothing.
 use mathlib.Core.List.{List, [], ◌∷◌}
 use mathlib.Core.Bool.{Bool, true, false, cond, not}
-use Prim.Native.Nat.{ℕ, ◌+◌, ◌-◌, ◌≤◌}
+use Prim.Native.Nat.{ℕ, ◌+◌, ◌≤◌}
 use native.Mathlib.Omega.{arith}
 use lib.Dec.{eqb, ltb}
 use lib.ListN.{length, take, get_or, length-take}
 use Rattle.std.specs.Prelude.{Option, Some, None, Result, Ok, Err, is_some}
 use Rattle.words.specs.declared.Fault.{Fault}
-use Rattle.words.specs.declared.Fault.TheVariants.{BeginsNoLine, OneTooMany, NoOption, GivenTwice, ValueMissing, TooManyCharts, TooManyWeights, TooManyPlays}
+use Rattle.words.specs.declared.Fault.TheVariants.{BeginsNoLine, OneTooMany, NoOption, GivenTwice, ValueMissing}
 use Rattle.words.specs.Lines.{Part, part, line_size, lines_from, lines, unended}
 use Rattle.words.specs.Words.{blank, begins, more, word_size, words_from, words}
 use Rattle.typed_line.specs.declared.Span.{Span}
 use Rattle.typed_line.specs.declared.Kind.{Kind}
-use Rattle.typed_line.specs.declared.Kind.TheVariants.{Chart, Weights, Play}
 use Rattle.typed_line.specs.declared.PlayOption.{PlayOption}
 use Rattle.typed_line.specs.declared.PlayOption.TheVariants.{Valued, Best, Worst, Classic}
 use Rattle.typed_line.specs.declared.Want.{Want}
@@ -25,7 +24,7 @@ use Rattle.typed_sheet.specs.declared.LineFault.{LineFault}
 use Rattle.typed_sheet.specs.declared.Tally.{Tally}
 use Rattle.typed_sheet.specs.declared.TypedError.{TypedError}
 use Rattle.typed_sheet.specs.declared.TypedError.TheVariants.{Faulty, Short}
-use Rattle.typed_sheet.specs.Typed.{counted, counts, told_at, tallied_as, tallied, tallies, tally_all, none, tally_of, sheet_size, Outcome, outcome_of, typed_sheet}
+use Rattle.typed_sheet.specs.Typed.{counts, told_at, tallied_as, tallied, tallies, tally_all, none, tally_of, sheet_size, Outcome, outcome_of, typed_sheet}
 
 either : {A : Type 0} (P : A → Type 0) (b : Bool) {x y : A} → P x → P y → P (cond b x y)
 either P true p q = p

@@ -21,7 +21,7 @@ use Rattle.typed_records.specs.Records.{record_bytes, record_size}
 use Rattle.typed_records.proofs.Lengths.{length_record}
 use Rattle.typed_sheet.specs.declared.LineFault.{LineFault}
 use Rattle.typed_sheet.specs.declared.Tally.{Tally}
-use Rattle.typed_sheet.specs.Typed.{counted, stopped, counts, told_at, tallied_as, tallied, tallies, tally_all, none, tally_of, is_kind, records}
+use Rattle.typed_sheet.specs.Typed.{counted, told_at, tallied_as, tallied, tallies, tally_all, tally_of, is_kind, records}
 use Rattle.typed_sheet.proofs.Judged.{stays}
 
 abbrev is : Kind → Option Kind → ℕ

@@ -6,8 +6,7 @@ use Prim.Native.Nat.{ℕ, ◌+◌, ◌≤◌}
 use native.Mathlib.Omega.{arith}
 use lib.Dec.{eqb}
 use lib.ListN.{length, take, length-take}
-use mathlib.Core.Path.{◌≡◌}
-use Rattle.words.specs.Lines.{Part, part, line_size, lines_from, lines}
+use Rattle.words.specs.Lines.{Part, line_size, lines_from, lines}
 
 -- parts that end at n or before
 pub data Inside (n : ℕ) : List Part → Type 0 where

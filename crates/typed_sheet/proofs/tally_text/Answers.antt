@@ -1,14 +1,12 @@
 -- `typed_sheet::tally_text` meets its contract. Assumes nothing.
-use mathlib.Core.Path.{◌≡◌, sym, ap, subst, ◌∙◌}
-use mathlib.Core.List.{List}
-use Prim.Native.Nat.{◌+◌}
+use mathlib.Core.Path.{sym, ap, subst, ◌∙◌}
 use mathlib.Core.Logic.{inl}
 use native.Mathlib.Omega.{arith}
 use lib.ListN.{length}
-use Rattle.std.specs.Prelude.{Result, Ok, Err}
+use Rattle.std.specs.Prelude.{Result, Ok}
 use Rattle.std.specs.Iterator.Adapters.{enumerate_source, enumerate_count}
 use Rattle.std.proofs.lemmas.Result.{err_from_is_err_and}
-use Rattle.words.specs.Lines.{Part, part, lines}
+use Rattle.words.specs.Lines.{part}
 use Rattle.words.specs.Walk.{lines_left}
 use Rattle.typed_sheet.specs.declared.LineFault.{LineFault}
 use Rattle.typed_sheet.specs.declared.Tally.{Tally}

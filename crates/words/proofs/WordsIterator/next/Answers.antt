@@ -1,6 +1,5 @@
 -- `words::Words::next` meets its contract. Assumes nothing.
 use mathlib.Core.Path.{ap}
-use native.Mathlib.Omega.{arith}
 use Rattle.std.proofs.Common.{rules, length}
 use Rattle.words.proofs.Follow.{none_left, one_left}
 use Rattle.words.proofs.WordsIterator.next.Goals as goal
