@@ -5,48 +5,46 @@ ghost use Rattle.std.specs.Prelude.{◌≡◌, ◌+◌, ◌≤◌, true, ltb, le
 ghost use Rattle.lists.specs.Lists.{put};
 ghost use Rattle.weighting.specs.Scoring.{allowed};
 ghost use Rattle.answers.specs.Answers.{answer_bytes};
-ghost use Rattle.generated.specs.Generated.{generated_of};
-ghost use Rattle.score_state.specs.Answer.{answer_in, unless};
+ghost use Rattle.generated.specs.Generated.{values, generated_of};
+ghost use Rattle.score_state.specs.Answer.{unless};
 ghost use Rattle.rows.specs.Rows.{found_answer};
 
 use generated::Generated;
 use inspect::Chart;
 use records::Row;
+use refusals::Refusal;
 use score_state::HitResults;
 use weighting::Scoring;
 
-// The answer that the direct call's status and values tell.
-fn answer_of(status: u32, numbers: [u32; 8]) -> Generated
+// What the direct call's eight values tell.
+fn generated_in(numbers: [u32; 8]) -> Generated
     requires { length numbers ≡ 8 }
-    ensures { generated_of result ≡ answer_in status numbers }
+    ensures { values result ≡ numbers }
 {
-    if status > 0 {
-        return Generated::Refused(status);
+    Generated {
+        counts: HitResults {
+            n320: numbers[0],
+            n300: numbers[1],
+            n200: numbers[2],
+            n100: numbers[3],
+            n50: numbers[4],
+            misses: numbers[5],
+        },
+        tried: numbers[6],
+        left: points_left::signed_of(numbers[7]),
     }
-    let counts = HitResults {
-        n320: numbers[0],
-        n300: numbers[1],
-        n200: numbers[2],
-        n100: numbers[3],
-        n50: numbers[4],
-        misses: numbers[5],
-    };
-    Generated::Counts(counts, numbers[6], points_left::signed_of(numbers[7]))
 }
 
 // The answer of a row whose chart is found.
-fn found_answer(row: Row, chart: Chart, scoring: Scoring) -> Generated
+fn found_answer(row: Row, chart: Chart, scoring: Scoring) -> Result<Generated, Refusal>
     requires { allowed scoring ≡ true }
     ensures { generated_of result ≡ found_answer scoring row chart }
 {
-    let stop = row_checks::row_stop(row, chart, scoring);
-    if stop > 0 {
-        return Generated::Refused(stop);
-    }
+    row_checks::check(row, chart, scoring)?;
     let acc = little_endian::f64_of(row.acc);
     let kind = direct::kind_of(scoring, row.classic == 1);
     let mut numbers = direct::numbers_of(scoring);
-    let status = direct::scored(
+    direct::scored(
         chart.n_objects,
         chart.n_hold_notes,
         row.method,
@@ -64,12 +62,12 @@ fn found_answer(row: Row, chart: Chart, scoring: Scoring) -> Generated
         row.holds_passed,
         acc,
         &mut numbers,
-    );
-    answer_of(status, numbers)
+    )?;
+    Ok(generated_in(numbers))
 }
 
 // The answer of a row of a sheet with n charts, chart being the one that it names, if it names one of them.
-fn row_answer(row: Row, chart: Chart, n: usize, scoring: Scoring) -> Generated
+fn row_answer(row: Row, chart: Chart, n: usize, scoring: Scoring) -> Result<Generated, Refusal>
     requires { allowed scoring ≡ true }
     ensures { generated_of result ≡ unless (ltb row.chart n) 6 (found_answer scoring row chart) }
 {
@@ -77,7 +75,7 @@ fn row_answer(row: Row, chart: Chart, n: usize, scoring: Scoring) -> Generated
     if index < n {
         found_answer(row, chart, scoring)
     } else {
-        Generated::Refused(6)
+        Err(Refusal::NoChart)
     }
 }
 
