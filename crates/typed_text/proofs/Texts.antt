@@ -25,7 +25,7 @@ use Rattle.sheet_lines.specs.Lines.{chart_text, weights_text, play_text}
 use Rattle.typed_text.specs.declared.Places.{Places}
 use Rattle.typed_text.specs.declared.TextError.{TextError}
 use Rattle.typed_text.specs.declared.TextError.TheVariants as Error
-use Rattle.typed_text.specs.SheetText.{stop_of, fault_at, first_from, first_stopped, line_at, line_count, text_of, text, sheet_text, Placed, Says, Counted, RowsTold}
+use Rattle.typed_text.specs.SheetText.{stop_of, first_from, first_stopped, line_at, text_of, text, sheet_text, Placed, Says, Counted, RowsTold}
 use Rattle.typed_text.proofs.Inside.{charts_are, own_are, weights-at, rows-at, queries_are}
 
 -- ---- row by row
