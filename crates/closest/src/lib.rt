@@ -3,28 +3,29 @@
 // change the answer, as crate `closest_laws` proves.
 #![tactic(auto)]
 
-ghost use Rattle.std.specs.Prelude.{◌≡◌, List, [], ◌∷◌, ℕ, ◌+◌, ◌-◌, ◌*◌, ◌<◌, ◌≤◌};
+ghost use Rattle.std.specs.Prelude.{◌≡◌, List, [], ◌∷◌, ℕ, ◌+◌, ◌-◌, ◌≤◌};
 ghost use Rattle.std.proofs.Math.Option.{Option};
+ghost use Rattle.std.specs.Range.{range_inclusive_end};
 ghost use Rattle.std.specs.Float.Ieee as Ieee;
-ghost use Rattle.units.specs.Limits.{most_weight, most_points};
 ghost use Rattle.score_state.specs.Points.{counts_of};
-ghost use Rattle.score_state.specs.Given.{missing, fill};
+ghost use Rattle.score_state.specs.Given.{option_of, missing, fill};
 ghost use Rattle.score_state.specs.Accuracy.{Capped};
-ghost use Rattle.inspect.specs.Presence.{has, given, givens_of, lacking};
+ghost use Rattle.inspect.specs.Presence.{givens_of, lacking};
 ghost use Rattle.inspect.specs.Inspect.{inspect_of};
 ghost use Rattle.inspect.specs.Checks.{Domain};
-ghost use Rattle.closest_laws.specs.Loops.{range, first_two, offer, scan};
+ghost use Rattle.closest_laws.specs.Loops.{first_two, offer, scan};
 ghost use Rattle.closest_laws.specs.Closest as Laws;
 ghost use Rattle.closest_laws.specs.Closest.{closest_at, provided, weights, plain_optimize_last_three, inner, outer, plain_optimize_three_plus_missing, clamp_and_fill, by_missing};
-ghost use Rattle.closest_points.specs.Code.{pair_view, last_view};
+ghost use Rattle.closest_points.specs.Code.{values_of, pair_view, last_view};
 ghost use Rattle.closest.specs.Answer.{answer_of};
 ghost use Rattle.closest.specs.Within.{Within};
 
-use closest_points::{Left, Pair, Span, Three, TwoVars};
-use inspect::{Missing, Query};
+use closest_points::{LastThree, Pair, Three, TwoVars};
+use inspect::{Missing, N50, N100, N200, N300, N320, Query, given};
 use refusals::Refusal;
 use rounding::Acc;
 use score_state::HitResults;
+use std::ops::RangeInclusive;
 use units::{Hits, Points};
 
 // `generate_hitresults` where acc is given. Overfull: two counts are missing, and the given ones are over remain.
@@ -47,30 +48,31 @@ pub fn generate_hitresults(q: Query, acc: Acc) -> Result<HitResults, Refusal>
 }
 
 // The given count, or the next of the pair where it is missing; and what is then left of the pair.
-fn next_of(pair: Pair, presence: u8, place: u8, n: u32) -> (Hits, Pair)
-    requires { 0 < place }
-    ensures { (gs : List (Option ℕ)) → result.0.0 ∷ fill gs (pair_view result.1) ≡ fill (given (has presence place) n ∷ gs) (pair_view pair) }
+#[tactic(auto, unfolding(score_state::specs::Given::fill))]
+fn next_of(pair: Pair, given: Option<u32>) -> (Hits, Pair)
+    ensures { (gs : List (Option ℕ)) → result.0.0 ∷ fill gs (pair_view result.1) ≡ fill (option_of given ∷ gs) (pair_view pair) }
 {
-    if inspect::is_given(presence, place) {
-        return (Hits(n), pair);
-    }
     let Pair(x, y) = pair;
-    (x, Pair(y, Hits(0)))
+    match given {
+        Some(n) => (Hits(n), pair),
+        None => (x, Pair(y, Hits(0))),
+    }
 }
 
 // The given counts, and the pair at the missing places in turn.
 fn fill_in(presence: u8, counts: HitResults, pair: Pair) -> HitResults
     ensures { (counts_of result ≡ fill (givens_of presence counts) (pair_view pair)) × (result.misses ≡ counts.misses) }
 {
-    let (n320, pair) = next_of(pair, presence, inspect::N320, counts.n320);
-    let (n300, pair) = next_of(pair, presence, inspect::N300, counts.n300);
-    let (n200, pair) = next_of(pair, presence, inspect::N200, counts.n200);
-    let (n100, pair) = next_of(pair, presence, inspect::N100, counts.n100);
-    let (n50, _) = next_of(pair, presence, inspect::N50, counts.n50);
+    let (n320, pair) = next_of(pair, given(presence, N320, counts.n320));
+    let (n300, pair) = next_of(pair, given(presence, N300, counts.n300));
+    let (n200, pair) = next_of(pair, given(presence, N200, counts.n200));
+    let (n100, pair) = next_of(pair, given(presence, N100, counts.n100));
+    let (n50, _) = next_of(pair, given(presence, N50, counts.n50));
     HitResults::of(n320, n300, n200, n100, n50, Hits(counts.misses))
 }
 
-// The nine arguments that the Rust's functions hand on. A missing count is 0; presence says which are.
+// The nine arguments that the Rust's functions hand on. A missing count is 0; presence says which are: numbers beside those bits, as
+// in the query (document 01, Option, Vec and the trait recast), since the match on which are missing goes by the presence number.
 #[derive(Clone, Copy)]
 pub struct Play {
     pub w320: u32,
@@ -84,6 +86,7 @@ pub struct Play {
 impl Play {
     ghost use Rattle.closest.specs.Code.{play_view, best_view};
 
+    #[tactic(auto, using(closest_laws::proofs::Bits::zeroed), unfolding(closest_laws::specs::Closest::play_of, inspect::specs::Presence::unwrap_or_zero))]
     fn of(q: Query, acc: Acc) -> Play
         requires { Domain q }
         ensures { play_view result ≡ Laws.play_of (inspect_of q) acc.value }
@@ -98,7 +101,7 @@ impl Play {
             inspect::misses(q),
         );
         Play {
-            w320: w320,
+            w320,
             target_numerator: inspect::target_of(acc, w320, inspect::total_hits(q)),
             remain: inspect::remain(q),
             presence: q.presence,
@@ -148,8 +151,8 @@ impl Play {
         let weights = score_state::standard_weights(self.w320 == 60);
         let (w1, w2) = self.missing_weights();
         let vars = TwoVars {
-            w1: w1,
-            w2: w2,
+            w1,
+            w2,
             remain_hits: self.remain - num_provided,
             provided_sum: score_state::points_of(weights, counts),
             target: self.target_numerator,
@@ -173,26 +176,27 @@ impl Play {
         requires { 3 ≤ lacking self.presence }
         ensures { result ≡ plain_optimize_three_plus_missing (play_view self) }
     {
-        let span = self.n320_values();
         let mut best = self.start();
-        for new320 in span.lo.0..=span.hi.0 {
+        for new320 in self.n320_values() {
             best = best.row(self, Hits(new320));
         }
         best.result
     }
 
     // The best before any candidate.
+    #[tactic(auto, using(closest_laws::proofs::Steps::or_given), unfolding(closest_laws::specs::Closest::start))]
     fn start(self) -> Best
         ensures { best_view result ≡ Laws.start (play_view self) }
     {
         let c = self.counts;
-        let n50 = inspect::pick(self.presence, inspect::N50, self.remain.0, c.n50);
+        let n50 = inspect::pick(self.presence, N50, self.remain.0, c.n50);
         Best {
             dist: f64::MAX,
-            result: HitResults { n50: n50, ..c },
+            result: HitResults { n50, ..c },
         }
     }
 
+    #[tactic(auto, unfolding(closest_laws::specs::Closest::space))]
     fn min_space_needed(self) -> Hits
         ensures { result.0 ≡ Laws.space (play_view self) }
     {
@@ -200,19 +204,21 @@ impl Play {
         Hits(c.n200) + Hits(c.n100) + Hits(c.n50)
     }
 
-    fn n320_values(self) -> Span
-        ensures { (range result.lo.0 result.hi.0 ≡ Laws.values320 first_two (play_view self)) × (result.hi.0 ≤ self.remain.0) }
+    #[tactic(auto, unfolding(closest_laws::specs::Closest::values320))]
+    fn n320_values(self) -> RangeInclusive<u32>
+        ensures { (values_of result ≡ Laws.values320 first_two (play_view self)) × (range_inclusive_end result ≤ self.remain.0) }
     {
-        let n320 = inspect::given(self.presence, inspect::N320, self.counts.n320);
+        let n320 = given(self.presence, N320, self.counts.n320);
         let room = self.remain.saturating_sub(self.min_space_needed());
         closest_points::values(n320, room, self.remain, self.target_numerator, self.w320)
     }
 
-    fn n300_values(self, new320: Hits) -> Span
+    #[tactic(auto, using(closest_laws::proofs::Fills::minus_two), unfolding(closest_laws::specs::Closest::values300))]
+    fn n300_values(self, new320: Hits) -> RangeInclusive<u32>
         requires { new320.0 ≤ self.remain.0 }
-        ensures { (range result.lo.0 result.hi.0 ≡ Laws.values300 first_two (play_view self) new320.0) × (result.hi.0 ≤ self.remain.0 - new320.0) }
+        ensures { (values_of result ≡ Laws.values300 first_two (play_view self) new320.0) × (range_inclusive_end result ≤ self.remain.0 - new320.0) }
     {
-        let n300 = inspect::given(self.presence, inspect::N300, self.counts.n300);
+        let n300 = given(self.presence, N300, self.counts.n300);
         let remain_after_320 = self.remain - new320;
         let room = remain_after_320.saturating_sub(self.min_space_needed());
         let target_after_320 = self.target_numerator.saturating_sub(new320 * self.w320);
@@ -220,6 +226,7 @@ impl Play {
     }
 
     // How far the accuracy of a candidate lies from that of the target: f64, since its rounding decides ties.
+    #[tactic(auto, unfolding(closest_laws::specs::Closest::try_at))]
     fn accuracy_distance(self, res: HitResults) -> f64
         requires { Capped res }
         ensures { result ≡ (Laws.try_at (play_view self) res).dist }
@@ -231,10 +238,11 @@ impl Play {
     }
 
     // The last three values, of the hits that are left.
-    fn optimize_last_three(self, left: Left) -> Three
-        ensures { last_view result ≡ plain_optimize_last_three first_two (play_view self).n200 (play_view self).n100 (play_view self).n50 left.remain.0 left.earned.0 left.target.0 }
+    #[tactic(auto, unfolding(closest_laws::specs::Closest::plain_optimize_last_three))]
+    fn optimize_last_three(self, last: LastThree) -> Three
+        ensures { last_view result ≡ plain_optimize_last_three first_two (play_view self).n200 (play_view self).n100 (play_view self).n50 last.remain.0 last.earned.0 last.target.0 }
     {
-        let remain = left.remain;
+        let remain = last.remain;
         let n2 = Hits(self.counts.n200);
         let n1 = Hits(self.counts.n100);
         let n5 = Hits(self.counts.n50);
@@ -244,18 +252,18 @@ impl Play {
             0b101 => Three(n2, remain.saturating_sub(n2 + n5), n5),
             0b110 => Three(remain.saturating_sub(n1 + n5), n1, n5),
             0b001 => {
-                let Pair(n100, n50) = left.two_of_last(n2, 40, 10, 10);
+                let Pair(n100, n50) = last.two_of_last(n2, 40, 10, 10);
                 Three(n2, n100, n50)
             }
             0b010 => {
-                let Pair(n200, n50) = left.two_of_last(n1, 20, 10, 30);
+                let Pair(n200, n50) = last.two_of_last(n1, 20, 10, 30);
                 Three(n200, n1, n50)
             }
             0b100 => {
-                let Pair(n200, n100) = left.two_of_last(n5, 10, 20, 20);
+                let Pair(n200, n100) = last.two_of_last(n5, 10, 20, 20);
                 Three(n200, n100, n5)
             }
-            _ => left.all_three(),
+            _ => last.all_three(),
         }
     }
 }
@@ -270,6 +278,7 @@ pub struct Best {
 impl Best {
     ghost use Rattle.closest.specs.Code.{play_view, best_view, best_try};
 
+    #[tactic(auto, unfolding(closest_laws::specs::Loops::offer))]
     fn offer(mut self, dist: f64, res: HitResults) -> Best
         ensures { best_view result ≡ offer Ieee.lt (best_try dist res) (best_view self) }
     {
@@ -281,6 +290,7 @@ impl Best {
     }
 
     // The candidate with so many n320 and n300, unless the given counts have no room.
+    #[tactic(auto, using(units::proofs::Order::lt_of), unfolding(closest_laws::specs::Closest::inner, closest_laws::specs::Loops::scan))]
     fn attempt(self, play: Play, new320: Hits, new300: Hits) -> Best
         requires { (3 ≤ lacking play.presence) × (new320.0 + new300.0 ≤ play.remain.0) }
         ensures { best_view result ≡ scan Ieee.lt (inner first_two (play_view play) new320.0 new300.0) (best_view self) }
@@ -289,17 +299,18 @@ impl Best {
         if remain_after_300 < play.min_space_needed() {
             return self;
         }
-        let left = Left {
+        let last = LastThree {
             remain: remain_after_300,
             earned: new320 * play.w320 + new300 * 60,
             target: play.target_numerator,
         };
-        let Three(n200, n100, n50) = play.optimize_last_three(left);
+        let Three(n200, n100, n50) = play.optimize_last_three(last);
         let result = HitResults::of(new320, new300, n200, n100, n50, Hits(play.counts.misses));
         self.offer(play.accuracy_distance(result), result)
     }
 
     // The candidates with so many n320.
+    #[tactic(auto, using(units::proofs::Order::lt_of), unfolding(closest_laws::specs::Closest::outer, closest_laws::specs::Loops::scan))]
     fn row(self, play: Play, new320: Hits) -> Best
         requires { (3 ≤ lacking play.presence) × (new320.0 ≤ play.remain.0) }
         ensures { best_view result ≡ scan Ieee.lt (outer first_two (play_view play) new320.0) (best_view self) }
@@ -307,9 +318,8 @@ impl Best {
         if play.remain - new320 < play.min_space_needed() {
             return self;
         }
-        let span = play.n300_values(new320);
         let mut best = self;
-        for new300 in span.lo.0..=span.hi.0 {
+        for new300 in play.n300_values(new320) {
             best = best.attempt(play, new320, Hits(new300));
         }
         best

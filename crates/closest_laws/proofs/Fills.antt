@@ -32,13 +32,9 @@ fill_zero (none ∷ gs) (x ∷ xs) = ap (λ (ys : List ℕ). x ∷ ys) (fill_zer
 fill_zero (some n ∷ gs) xs = ap (λ (ys : List ℕ). n ∷ ys) (fill_zero gs xs)
 
 -- the next of a pair where a count is missing
-pub next_given : (h : Bool) (n : ℕ) (gs : List (Option ℕ)) (xs : List ℕ) → h ≡ true → n ∷ fill gs xs ≡ fill (given h n ∷ gs) xs
+pub next_missing : (x y : ℕ) (gs : List (Option ℕ)) → x ∷ fill gs (y ∷ 0 ∷ []) ≡ fill (none ∷ gs) (x ∷ y ∷ [])
 unfolding fill
-next_given h n gs xs e = rw e
-
-pub next_missing : (h : Bool) (n x y : ℕ) (gs : List (Option ℕ)) → h ≡ false → x ∷ fill gs (y ∷ 0 ∷ []) ≡ fill (given h n ∷ gs) (x ∷ y ∷ [])
-unfolding fill
-next_missing h n x y gs e = rw e (ap (λ (ys : List ℕ). x ∷ ys) (fill_zero gs (y ∷ [])))
+next_missing x y gs = ap (λ (ys : List ℕ). x ∷ ys) (fill_zero gs (y ∷ []))
 
 -- missing weights fall as all weights do
 abbrev pub Falls : ℕ → List ℕ → Type 0

@@ -5,5 +5,4 @@ pub mod TwoMissing
 pub mod Bits
 pub mod Steps
 pub mod Search
-pub mod Arms
 pub mod Fills

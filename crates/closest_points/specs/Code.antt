@@ -1,12 +1,14 @@
 -- closest.rs, `optimize_last_three` (lines 470 to 553): where one of the last three counts is given, the heavier of the others is a
 -- rounded quotient, at most the hits that are left, and the lighter is the rest. And the code's structs as the values of
 -- closest_laws' definitions.
-use Rattle.std.specs.Prelude.{ℕ, ◌+◌, ◌-◌, ◌*◌, min, ◌≡◌, List, [], ◌∷◌, Some, None}
+use Rattle.std.specs.Prelude.{cond, ℕ, ◌+◌, ◌-◌, ◌*◌, min, ◌≡◌, List, [], ◌∷◌, Some, None}
 use Rattle.std.specs.declared.option.Option as Code
 use Rattle.std.proofs.Math.Option.{Option, none, some}
 use Rattle.std.specs.Float.Ieee.Nearest.{closest}
 use Rattle.units.specs.declared.Points.{Points}
-use Rattle.closest_laws.specs.Loops.{Kept}
+use Rattle.std.specs.Range.{range_inclusive_start, range_inclusive_end, range_inclusive_exhausted}
+use Rattle.std.specs.declared.ops.RangeInclusive.{RangeInclusive}
+use Rattle.closest_laws.specs.Loops.{Kept, range}
 use Rattle.closest_laws.specs.Closest.{Last}
 use Rattle.closest_points.specs.declared.Three.{Three}
 use Rattle.closest_points.specs.declared.Near.{Near}
@@ -38,3 +40,7 @@ near_view b = record { dist = dist_view b.dist; result = b.best }
 
 abbrev pub near_try : {A : Type 0} → Points → A → Kept (Option ℕ) A
 near_try d t = record { dist = some d.0; result = t }
+
+-- document 01, Option, Vec and the trait recast: "`Vec` ranges become loops". What the range `lo..=hi` of such a loop has left to run through.
+abbrev pub values_of : RangeInclusive ℕ → List ℕ
+values_of r = cond (range_inclusive_exhausted r) [] (range (range_inclusive_start r) (range_inclusive_end r))

@@ -5,14 +5,16 @@
 
 ghost use Rattle.std.specs.Prelude.{◌≡◌, [], ◌∷◌, ◌+◌, ◌-◌, ◌*◌, ◌/◌, ◌<◌, ◌≤◌};
 ghost use Rattle.std.proofs.Math.Option.{none};
+ghost use Rattle.std.specs.Range.{range_inclusive_end};
 ghost use Rattle.rounding.specs.Quotient.{rounded_up};
 ghost use Rattle.units.specs.Limits.{most32, most_hits, most_weight, most_points};
 ghost use Rattle.score_state.specs.Given.{option_of};
-ghost use Rattle.closest_laws.specs.Loops.{range, first_two, offer, nearer};
+ghost use Rattle.closest_laws.specs.Loops.{first_two, offer, nearer};
 ghost use Rattle.closest_laws.specs.Closest as Laws;
 ghost use Rattle.closest_laws.specs.Closest.{split_at, best_split, solve_two, last_at, plain_optimize_last_three};
-ghost use Rattle.closest_points.specs.Code.{TwoOfLast, pair_view, last_view, near_view, near_by, near_try};
+ghost use Rattle.closest_points.specs.Code.{values_of, TwoOfLast, pair_view, last_view, near_view, near_by, near_try};
 
+use std::ops::RangeInclusive;
 use units::{Hits, Points};
 
 // Counts of two judgements, the heavier first.
@@ -23,13 +25,6 @@ pub struct Pair(pub Hits, pub Hits);
 #[derive(Clone, Copy)]
 pub struct Three(pub Hits, pub Hits, pub Hits);
 
-// A loop's first and last value.
-#[derive(Clone, Copy)]
-pub struct Span {
-    pub lo: Hits,
-    pub hi: Hits,
-}
-
 // The best counts by whole distance, and their distance once any are found.
 #[derive(Clone, Copy)]
 pub struct Near<A> {
@@ -38,14 +33,11 @@ pub struct Near<A> {
 }
 
 impl<A: Copy> Near<A> {
+    #[tactic(auto, using(units::proofs::Order::lt_of), unfolding(closest_laws::specs::Loops::offer, closest_laws::specs::Loops::nearer))]
     fn offer(mut self, dist: Points, counts: A) -> Near<A>
         ensures { near_view result ≡ offer nearer (near_try dist counts) (near_view self) }
     {
-        let nearer = match self.dist {
-            Some(least) => dist < least,
-            None => true,
-        };
-        if nearer {
+        if self.dist.is_none_or(|least| dist < least) {
             self.dist = Some(dist);
             self.best = counts;
         }
@@ -65,6 +57,7 @@ pub struct TwoVars {
 }
 
 impl TwoVars {
+    #[tactic(auto, using(closest_laws::proofs::TwoMissing::solved_alike))]
     pub fn solve_two_vars(self) -> Pair
         ensures { pair_view result ≡ solve_two self.w1 self.w2 self.target.0 self.remain_hits.0 self.provided_sum.0 }
     {
@@ -112,40 +105,41 @@ impl Near<Pair> {
 
 // What n320 or n300 runs through, of this weight, for so many hits that are to earn so many points: a given count is clamped to the
 // room, a missing one takes the first two of the Rust's values within it.
-pub fn values(given: Option<u32>, room: Hits, hits: Hits, target: Points, weight: u32) -> Span
+pub fn values(
+    given: Option<u32>,
+    room: Hits,
+    hits: Hits,
+    target: Points,
+    weight: u32,
+) -> RangeInclusive<u32>
     requires { (room.0 ≤ most_hits) × (hits.0 ≤ most_hits) × (target.0 ≤ most_points) × (10 < weight) × (weight ≤ most_weight) }
-    ensures { (range result.lo.0 result.hi.0 ≡ Laws.values first_two (option_of given) room.0 ((target.0 - 10 * hits.0) / (weight - 10)) (rounded_up target.0 weight + 1)) × (result.hi.0 ≤ room.0) }
+    ensures { (values_of result ≡ Laws.values first_two (option_of given) room.0 ((target.0 - 10 * hits.0) / (weight - 10)) (rounded_up target.0 weight + 1)) × (range_inclusive_end result ≤ room.0) }
 {
     match given {
         Some(n) => {
-            let clamped = Hits(n).min(room);
-            Span {
-                lo: clamped,
-                hi: clamped,
-            }
+            let clamped = n.min(room.0);
+            clamped..=clamped
         }
         None => {
             let min_raw = target.saturating_sub(hits * 10);
-            let lo = room.min(min_raw.steps(weight - 10).count);
+            let min_val = room.min(min_raw.steps(weight - 10).count);
             let max_val = room.min(target.div_ceil(weight) + Hits(1));
-            Span {
-                lo: lo,
-                hi: max_val.min(lo + Hits(1)),
-            }
+            let second = max_val.min(min_val + Hits(1));
+            min_val.0..=second.0
         }
     }
 }
 
-// The hits that are left for the last three counts, with so many points earned.
+// The last three counts: the hits that remain for them, with so many points earned by those before.
 #[derive(Clone, Copy)]
-pub struct Left {
+pub struct LastThree {
     pub remain: Hits,
     pub earned: Points,
     pub target: Points,
     pub ghost bounds: { (earned.0 + most_weight * remain.0 ≤ most_points) × (target.0 ≤ most_points) },
 }
 
-impl Left {
+impl LastThree {
     // One of the three is given, n of this weight; the others weigh light and light + step.
     pub fn two_of_last(self, n: Hits, weight: u32, light: u32, step: u32) -> Pair
         requires { (self.earned.0 + weight * n.0 + light * self.remain.0 ≤ most32) × (0 < step) × (step ≤ most_weight) }
@@ -162,39 +156,36 @@ impl Left {
     pub fn all_three(self) -> Three
         ensures { last_view result ≡ plain_optimize_last_three first_two none none none self.remain.0 self.earned.0 self.target.0 }
     {
-        let span = self.n200_values();
         let mut near = Near {
             dist: None,
             best: Three(Hits(0), Hits(0), self.remain),
         };
-        for new200 in span.lo.0..=span.hi.0 {
+        for new200 in self.n200_values() {
             near = near.last_at(self, Hits(new200));
         }
         near.best
     }
 
-    fn n200_values(self) -> Span
-        ensures { (range result.lo.0 result.hi.0 ≡ Laws.values200 first_two self.remain.0 self.earned.0 self.target.0) × (result.hi.0 ≤ self.remain.0) }
+    fn n200_values(self) -> RangeInclusive<u32>
+        ensures { (values_of result ≡ Laws.values200 first_two self.remain.0 self.earned.0 self.target.0) × (range_inclusive_end result ≤ self.remain.0) }
     {
         let min_raw = self.target.saturating_sub(self.earned + self.remain * 20);
         let min200 = min_raw.steps(20).count;
         let max_raw = self.target.saturating_sub(self.earned);
         let max200 = self.remain.min(max_raw.div_ceil(40) + Hits(1));
-        Span {
-            lo: min200,
-            hi: max200.min(min200 + Hits(1)),
-        }
+        let second = max200.min(min200 + Hits(1));
+        min200.0..=second.0
     }
 }
 
 impl Near<Three> {
     // n200 of the hits are n200; n100 comes by rounding, and n50 is the rest.
-    fn last_at(self, left: Left, n200: Hits) -> Near<Three>
-        requires { n200.0 ≤ left.remain.0 }
-        ensures { near_by last_view result ≡ offer nearer (last_at left.remain.0 left.earned.0 left.target.0 n200.0) (near_by last_view self) }
+    fn last_at(self, last: LastThree, n200: Hits) -> Near<Three>
+        requires { n200.0 ≤ last.remain.0 }
+        ensures { near_by last_view result ≡ offer nearer (last_at last.remain.0 last.earned.0 last.target.0 n200.0) (near_by last_view self) }
     {
-        let Pair(n100, n50) = left.two_of_last(n200, 40, 10, 10);
-        let score = left.earned + (n200 * 40 + n100 * 20 + n50 * 10);
-        self.offer(score.gap(left.target), Three(n200, n100, n50))
+        let Pair(n100, n50) = last.two_of_last(n200, 40, 10, 10);
+        let score = last.earned + (n200 * 40 + n100 * 20 + n50 * 10);
+        self.offer(score.gap(last.target), Three(n200, n100, n50))
     }
 }

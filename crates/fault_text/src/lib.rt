@@ -1,10 +1,15 @@
-// How a fault of a typed sheet is told, as bytes in a lent buffer. Each piece is told where it starts and answers where it ends.
+// How a fault of a typed sheet is told, as bytes in a lent buffer.
 #![tactic(auto)]
 
-ghost use Rattle.std.specs.Prelude.{◌≡◌, ◌+◌, ◌≤◌, length, take, drop};
+ghost use Rattle.std.specs.Prelude.{◌≡◌, ◌+◌, ◌≤◌, length, take, drop, eqb, false, IfSome, IfNone};
+ghost use Rattle.words.specs.Faults.{fault_number};
+ghost use Rattle.words.specs.declared.Fault.TheVariants.{ValueMissing};
 ghost use Rattle.io.specs.Counts.{IsPrefixLen};
-ghost use Rattle.text.specs.Text.{Appended};
-ghost use Rattle.fault_text.specs.FaultText.{shown_byte, shown, shown_word, later_phrase, phrase_of, sentence_of, fault_text};
+ghost use Rattle.text.specs.Written.{HasRoom, Gained};
+ghost use Rattle.fault_text.specs.FaultText.{shown_byte, shown, shown_word, phrase_of, sentence_of, fault_text};
+
+use text::Text;
+use words::Fault;
 
 // The longest: `line `, 20 digits and `: `, 40 bytes of a word, `..`, ` is not sixteen hex digits`, and an end.
 pub const ROOM: usize = 5 + 20 + 2 + 40 + 2 + 26 + 1;
@@ -21,110 +26,100 @@ fn shown_byte(b: u8) -> u8
     b
 }
 
-fn put_shown(text: &mut [u8], at: usize, word: &[u8]) -> usize
-    requires { at + length word.now ≤ length text.old }
-    ensures appended { Appended text.old at text.new result (shown word.now) }
-    ensures value { result ≡ at + length word.now }
+fn put_shown(text: &mut Text<'_>, word: &[u8])
+    requires { HasRoom text.old (length word.now) }
+    ensures gained { Gained text.old text.new (shown word.now) }
+    ensures value { text.new.len ≡ text.old.len + length word.now }
 {
-    let mut end = at;
-    let mut i: usize = 0;
-    while i < word.len() {
-        end = text::put_byte(text, end, shown_byte(word[i]));
-        i += 1;
+    for b in word {
+        text.put_byte(shown_byte(*b));
     }
-    end
 }
 
 // A word, cut where it is long.
-fn put_word(text: &mut [u8], at: usize, word: &[u8]) -> usize
-    requires { at + 42 ≤ length text.old }
-    ensures appended { Appended text.old at text.new result (shown_word word.now) }
-    ensures upper_bound { result ≤ at + 42 }
+fn put_word(text: &mut Text<'_>, word: &[u8])
+    requires { HasRoom text.old 42 }
+    ensures gained { Gained text.old text.new (shown_word word.now) }
+    ensures upper_bound { text.new.len ≤ text.old.len + 42 }
 {
     if 40 < word.len() {
-        let end = put_shown(text, at, &word[0..40]);
-        return text::put_bytes(text, end, b"..");
+        put_shown(text, &word[0..40]);
+        text.put_bytes(b"..");
+    } else {
+        put_shown(text, word);
     }
-    put_shown(text, at, word)
 }
 
-// What stands behind the word of a fault from 7 on.
-fn put_later_phrase(text: &mut [u8], at: usize, number: u32) -> usize
-    requires { at + 26 ≤ length text.old }
-    ensures appended { Appended text.old at text.new result (later_phrase number) }
-    ensures upper_bound { result ≤ at + 26 }
+// What stands behind the word; of a missing value nothing does.
+#[tactic(auto, unfolding(
+    crate::specs::FaultText::phrase_of,
+    crate::specs::FaultText::later_phrase,
+    crate::specs::FaultText::begins_no_line,
+    crate::specs::FaultText::one_too_many,
+    crate::specs::FaultText::no_option,
+    crate::specs::FaultText::given_twice,
+    crate::specs::FaultText::no_whole_number,
+    crate::specs::FaultText::too_large,
+    crate::specs::FaultText::no_percentage,
+    crate::specs::FaultText::not_hex,
+    crate::specs::FaultText::no_method,
+    crate::specs::FaultText::one_line_too_many
+))]
+fn phrase_of(fault: Fault) -> Option<&'static [u8]>
+    ensures none { IfNone result (fault ≡ ValueMissing) }
+    ensures some { IfSome result (λ p. (eqb (fault_number fault) 5 ≡ false) × (p.now ≡ phrase_of (fault_number fault)) × (length p.now ≤ 26)) }
 {
-    if number == 7 {
-        return text::put_bytes(text, at, b" is too large");
-    }
-    if number == 8 {
-        return text::put_bytes(text, at, b" is no percentage");
-    }
-    if number == 9 {
-        return text::put_bytes(text, at, b" is not sixteen hex digits");
-    }
-    if number == 10 {
-        return text::put_bytes(text, at, b" is no method");
-    }
-    if number == 11 {
-        return text::put_bytes(text, at, b" is too large");
-    }
-    text::put_bytes(text, at, b" is one line too many")
+    let phrase: &'static [u8] = match fault {
+        Fault::BeginsNoLine => b" begins no line",
+        Fault::OneTooMany => b" is one too many",
+        Fault::NoOption => b" is no option",
+        Fault::GivenTwice => b" is given twice",
+        Fault::ValueMissing => return None,
+        Fault::NoWholeNumber => b" is no whole number",
+        Fault::NumberTooLarge | Fault::ChartTooLarge => b" is too large",
+        Fault::NoPercentage => b" is no percentage",
+        Fault::NotHex => b" is not sixteen hex digits",
+        Fault::NoMethod => b" is no method",
+        Fault::TooManyCharts | Fault::TooManyWeights | Fault::TooManyPlays => b" is one line too many",
+    };
+    Some(phrase)
 }
 
-// What stands behind the word.
-fn put_phrase(text: &mut [u8], at: usize, number: u32) -> usize
-    requires { at + 26 ≤ length text.old }
-    ensures appended { Appended text.old at text.new result (phrase_of number) }
-    ensures upper_bound { result ≤ at + 26 }
+fn put_sentence(text: &mut Text<'_>, fault: Fault, word: &[u8])
+    requires { HasRoom text.old 68 }
+    ensures gained { Gained text.old text.new (sentence_of (fault_number fault) word.now) }
+    ensures upper_bound { text.new.len ≤ text.old.len + 68 }
 {
-    if number == 1 {
-        return text::put_bytes(text, at, b" begins no line");
+    match phrase_of(fault) {
+        Some(phrase) => {
+            put_word(text, word);
+            text.put_bytes(phrase);
+        }
+        None => {
+            text.put_bytes(b"a value is missing after ");
+            put_word(text, word);
+        }
     }
-    if number == 2 {
-        return text::put_bytes(text, at, b" is one too many");
-    }
-    if number == 3 {
-        return text::put_bytes(text, at, b" is no option");
-    }
-    if number == 4 {
-        return text::put_bytes(text, at, b" is given twice");
-    }
-    if number == 6 {
-        return text::put_bytes(text, at, b" is no whole number");
-    }
-    put_later_phrase(text, at, number)
 }
 
-fn put_sentence(text: &mut [u8], at: usize, number: u32, word: &[u8]) -> usize
-    requires { at + 68 ≤ length text.old }
-    ensures appended { Appended text.old at text.new result (sentence_of number word.now) }
-    ensures upper_bound { result ≤ at + 68 }
+fn put_fault(text: &mut Text<'_>, line: usize, fault: Fault, word: &[u8])
+    requires { HasRoom text.old 96 }
+    ensures { Gained text.old text.new (fault_text line (fault_number fault) word.now) }
 {
-    if number == 5 {
-        let start = text::put_bytes(text, at, b"a value is missing after ");
-        return put_word(text, start, word);
-    }
-    let end = put_word(text, at, word);
-    put_phrase(text, end, number)
+    text.put_bytes(b"line ");
+    text.put_number(line as u64);
+    text.put_bytes(b": ");
+    put_sentence(text, fault, word);
+    text.put_byte(b'\n');
 }
 
-fn put_fault(text: &mut [u8], line: usize, number: u32, word: &[u8]) -> usize
-    requires { 96 ≤ length text.old }
-    ensures { Appended text.old 0 text.new result (fault_text line number word.now) }
-{
-    let digits = text::put_bytes(text, 0, b"line ");
-    let colon = text::put_number(text, digits, line as u64);
-    let sentence = text::put_bytes(text, colon, b": ");
-    let end = put_sentence(text, sentence, number, word);
-    text::put_byte(text, end, b'\n')
-}
-
-// Tells a fault, its number from 1 to 14, at the start of text. It answers how many bytes that is; those past them stay.
-pub fn tell_fault(line: usize, number: u32, word: &[u8], text: &mut [u8; ROOM]) -> usize
+// Tells a fault at the start of text. It answers how many bytes that is; those past them stay.
+pub fn tell_fault(line: usize, fault: Fault, word: &[u8], text: &mut [u8; ROOM]) -> usize
     ensures counted { IsPrefixLen result text.new }
-    ensures told { take result text.new ≡ fault_text line number word.now }
+    ensures told { take result text.new ≡ fault_text line (fault_number fault) word.now }
     ensures beyond { drop result text.new ≡ drop result text.old }
 {
-    put_fault(text, line, number, word)
+    let mut text = Text::new(text);
+    put_fault(&mut text, line, fault, word);
+    text.len()
 }

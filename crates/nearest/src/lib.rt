@@ -72,7 +72,7 @@ fn best_of(presence: u8, plan: Plan, remain_hits: Hits, points: Points) -> Best
     let none = Hits(0);
     let at = Setting {
         left: remain_hits,
-        points: points,
+        points,
         n300: none,
         n200: none,
         n100: none,

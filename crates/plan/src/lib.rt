@@ -18,7 +18,7 @@ use score_state::Weights;
 use units::Points;
 use walk::{Middle, Plan};
 
-// Euclid's greatest common divisor.
+// Euclid's greatest common divisor. A `while`, since the turns are not counted.
 fn gcd(x: u32, y: u32) -> u32
     ensures { result ≡ Walk.gcd x y }
 {

@@ -9,16 +9,21 @@ use lib.Dec.{eqb, ltb}
 use lib.ListN.{get_or, set, replicate}
 use lib.Seq.{set-get_or}
 use borrow.Author.Tests.{lt-ltb, le-ltb, ne_eqb, eqb-true, eqb-false}
-use Rattle.words.specs.Words.{says, among}
-use Rattle.words.specs.declared.Value.TheVariants.{Is}
+use Rattle.std.specs.Prelude.{Option, Some, None, Ok}
+use Rattle.words.specs.Words.{says}
 use Rattle.text.specs.Text.{decimal_text}
 use Rattle.inspect.specs.Presence.{has}
 use Rattle.records.specs.declared.Row.{Row}
+use Rattle.typed_line.specs.declared.Kind.{Kind}
+use Rattle.typed_line.specs.declared.Kind.TheVariants.{Chart, Weights, Play}
+use Rattle.typed_line.specs.declared.PlayOption.{PlayOption}
+use Rattle.typed_line.specs.declared.PlayOption.TheVariants.{Valued, Best, Worst, Classic}
+use Rattle.typed_line.specs.declared.Want.{Want}
+use Rattle.typed_line.specs.declared.Want.TheVariants.{FirstWord, Nothing, OptionName, Value}
 use Rattle.typed_line.specs.declared.Line.{Line}
 use Rattle.typed_line.specs.Keywords.{chart, weights, play, ignore, fast, closest, nearest, n320, n300, n200, n100, n50, misses, acc, passed, holds, accbits, best, worst, classic, kind_of, method_of, option_of}
-use Rattle.typed_line.specs.Line.{fresh, opens, field_of, names, value_for, slot, after, fills, judged}
+use Rattle.typed_line.specs.Line.{span, fresh, field_of, named, names, value_for, slot, after, fills, judged_as, judged}
 use Rattle.percent.specs.declared.Percentage.{Percentage}
-use Rattle.percent.specs.declared.Percentage.TheVariants.{Has, Missing}
 use Rattle.percent.specs.Percent.{shortest}
 use Rattle.percent.proofs.Found.{Reads}
 use Rattle.percent.proofs.Fewest.{shortest-reads}
@@ -29,8 +34,12 @@ use Rattle.round_trip.proofs.Values.{decimal_word, decimal_back, hex_word, hex_b
 use Rattle.round_trip.proofs.Free.{unplaced, hears, hears_all, hears_append}
 
 -- a line of kind k without a fault, whatever its words' places
-abbrev pub line : ℕ → ℕ → List ℕ → List ℕ → Line
-line k w g v = record { fault = 0; at = 0; size = 0; first = 0; letters = 0; kind = k; want = w; given = g; values = v }
+abbrev pub line : Kind → Want → List (Option ℕ) → Line
+line k w o = record { fault = None; word = span 0 0; first = span 0 0; kind = Some k; want = w; fields = o }
+
+-- a field that is given by a condition
+abbrev pub opt : Bool → ℕ → Option ℕ
+opt b n = cond b (Some n) None
 
 next : (l m : Line) (w : List ℕ) (ws : List (List ℕ)) → hears l w ≡ m → hears_all l (w ∷ ws) ≡ hears_all m ws
 unfolding hears_all
@@ -41,79 +50,79 @@ unfolding hears_all
 none l = refl
 
 -- ---- a number, for field f
-fills_number : (k w f n : ℕ) (g v : List ℕ) → ltb f 13 ≡ true → fills (line k w g v) f (Is n) ≡ line k (after k f) (set g f 1) (set v f n)
+fills_number : (k : Kind) (w : Want) (f n : ℕ) (o : List (Option ℕ)) → ltb f 13 ≡ true → fills (line k w o) f (Ok n) ≡ line k (after (Some k) f) (set o f (Some n))
 unfolding fills slot
-fills_number k w f n g v h = rw h
+fills_number k w f n o h = rw h
 
-number_valued : (f n : ℕ) → eqb f 6 ≡ false → eqb f 11 ≡ false → eqb f 12 ≡ false → eqb f 13 ≡ false → n ≤ 4294967295 → value_for f (decimal_text n) ≡ Is n
+number_valued : (f n : ℕ) → eqb f 6 ≡ false → eqb f 11 ≡ false → eqb f 12 ≡ false → eqb f 13 ≡ false → n ≤ 4294967295 → value_for f (decimal_text n) ≡ Ok n
 unfolding value_for
 number_valued f n h6 h11 h12 h13 h = rw (h6, h11, h12, h13) (decimal_back n h)
 
-number_read : (k w f n : ℕ) (g v : List ℕ) → eqb w 0 ≡ false → eqb w 1 ≡ false → eqb w 2 ≡ false → w - 3 ≡ f → value_for f (decimal_text n) ≡ Is n
-    → hears (line k w g v) (decimal_text n) ≡ unplaced (fills (line k w g v) f (Is n))
-unfolding hears judged
-number_read k w f n g v h0 h1 h2 hf e = rw (h0, h1, h2, hf, e)
+number_read : (k : Kind) (f n : ℕ) (o : List (Option ℕ)) → value_for f (decimal_text n) ≡ Ok n → hears (line k (Value f) o) (decimal_text n) ≡ unplaced (fills (line k (Value f) o) f (Ok n))
+unfolding hears judged judged_as
+number_read k f n o e = rw e
 
-number : (k w f n : ℕ) (g v : List ℕ) → eqb w 0 ≡ false → eqb w 1 ≡ false → eqb w 2 ≡ false → w - 3 ≡ f → eqb f 6 ≡ false → eqb f 11 ≡ false → eqb f 12 ≡ false → eqb f 13 ≡ false → ltb f 13 ≡ true → n ≤ 4294967295
-    → hears (line k w g v) (decimal_text n) ≡ line k (after k f) (set g f 1) (set v f n)
-number k w f n g v h0 h1 h2 hf h6 h11 h12 h13 hs h = number_read k w f n g v h0 h1 h2 hf (number_valued f n h6 h11 h12 h13 h) ∙ ap unplaced (fills_number k w f n g v hs)
+number : (k : Kind) (f n : ℕ) (o : List (Option ℕ)) → eqb f 6 ≡ false → eqb f 11 ≡ false → eqb f 12 ≡ false → eqb f 13 ≡ false → ltb f 13 ≡ true → n ≤ 4294967295
+    → hears (line k (Value f) o) (decimal_text n) ≡ line k (after (Some k) f) (set o f (Some n))
+number k f n o h6 h11 h12 h13 hs h = number_read k f n o (number_valued f n h6 h11 h12 h13 h) ∙ ap unplaced (fills_number k (Value f) f n o hs)
 
 -- ---- the words of charts and weights
-chart-opens : hears fresh chart ≡ line 1 3 (replicate 13 0) (replicate 13 0)
-unfolding hears judged opens kind_of among says chart weights play
+chart-opens : hears fresh chart ≡ line Chart (Value 0) (replicate 13 None)
+unfolding hears judged judged_as kind_of says chart weights play
 chart-opens = refl
 
-weights-opens : hears fresh weights ≡ line 2 3 (replicate 13 0) (replicate 13 0)
-unfolding hears judged opens kind_of among says chart weights play
+weights-opens : hears fresh weights ≡ line Weights (Value 0) (replicate 13 None)
+unfolding hears judged judged_as kind_of says chart weights play
 weights-opens = refl
 
-play-opens : hears fresh play ≡ line 3 14 (replicate 13 0) (replicate 13 0)
-unfolding hears judged opens kind_of among says chart weights play
+play-opens : hears fresh play ≡ line Play (Value 11) (replicate 13 None)
+unfolding hears judged judged_as kind_of says chart weights play
 play-opens = refl
 
 abbrev pub chart_line : ℕ → ℕ → Line
-chart_line a b = line 1 1 (1 ∷ 1 ∷ 0 ∷ 0 ∷ 0 ∷ 0 ∷ 0 ∷ 0 ∷ 0 ∷ 0 ∷ 0 ∷ 0 ∷ 0 ∷ []) (a ∷ b ∷ 0 ∷ 0 ∷ 0 ∷ 0 ∷ 0 ∷ 0 ∷ 0 ∷ 0 ∷ 0 ∷ 0 ∷ 0 ∷ [])
+chart_line a b = line Chart Nothing (Some a ∷ Some b ∷ replicate 11 None)
 
 pub chart_heard : (a b : ℕ) → a ≤ 4294967295 → b ≤ 4294967295 → hears_all fresh (chart ∷ decimal_text a ∷ decimal_text b ∷ []) ≡ chart_line a b
 unfolding after
 chart_heard a b h k =
     next fresh _ chart _ chart-opens
-    ∙ next _ _ (decimal_text a) _ (number 1 3 0 a (replicate 13 0) (replicate 13 0) refl refl refl refl refl refl refl refl refl h)
-    ∙ next _ _ (decimal_text b) _ (number 1 4 1 b (1 ∷ replicate 12 0) (a ∷ replicate 12 0) refl refl refl refl refl refl refl refl refl k)
+    ∙ next _ _ (decimal_text a) _ (number Chart 0 a (replicate 13 None) refl refl refl refl refl h)
+    ∙ next _ _ (decimal_text b) _ (number Chart 1 b (Some a ∷ replicate 12 None) refl refl refl refl refl k)
     ∙ none _
 
 pub chart-words : (a b : ℕ) → all_words (decimal_text a ∷ decimal_text b ∷ []) ≡ true
 chart-words a b = rw (decimal_word a, decimal_word b)
 
 abbrev pub weights_line : ℕ → ℕ → ℕ → ℕ → ℕ → Line
-weights_line a b c d e = line 2 1 (1 ∷ 1 ∷ 1 ∷ 1 ∷ 1 ∷ 0 ∷ 0 ∷ 0 ∷ 0 ∷ 0 ∷ 0 ∷ 0 ∷ 0 ∷ []) (a ∷ b ∷ c ∷ d ∷ e ∷ 0 ∷ 0 ∷ 0 ∷ 0 ∷ 0 ∷ 0 ∷ 0 ∷ 0 ∷ [])
+weights_line a b c d e = line Weights Nothing (Some a ∷ Some b ∷ Some c ∷ Some d ∷ Some e ∷ replicate 8 None)
 
 pub weights_heard : (a b c d e : ℕ) → a ≤ 4294967295 → b ≤ 4294967295 → c ≤ 4294967295 → d ≤ 4294967295 → e ≤ 4294967295
     → hears_all fresh (weights ∷ decimal_text a ∷ decimal_text b ∷ decimal_text c ∷ decimal_text d ∷ decimal_text e ∷ []) ≡ weights_line a b c d e
 unfolding after
 weights_heard a b c d e p q r s t =
     next fresh _ weights _ weights-opens
-    ∙ next _ _ (decimal_text a) _ (number 2 3 0 a (replicate 13 0) (replicate 13 0) refl refl refl refl refl refl refl refl refl p)
-    ∙ next _ _ (decimal_text b) _ (number 2 4 1 b (1 ∷ replicate 12 0) (a ∷ replicate 12 0) refl refl refl refl refl refl refl refl refl q)
-    ∙ next _ _ (decimal_text c) _ (number 2 5 2 c (1 ∷ 1 ∷ replicate 11 0) (a ∷ b ∷ replicate 11 0) refl refl refl refl refl refl refl refl refl r)
-    ∙ next _ _ (decimal_text d) _ (number 2 6 3 d (1 ∷ 1 ∷ 1 ∷ replicate 10 0) (a ∷ b ∷ c ∷ replicate 10 0) refl refl refl refl refl refl refl refl refl s)
-    ∙ next _ _ (decimal_text e) _ (number 2 7 4 e (1 ∷ 1 ∷ 1 ∷ 1 ∷ replicate 9 0) (a ∷ b ∷ c ∷ d ∷ replicate 9 0) refl refl refl refl refl refl refl refl refl t)
+    ∙ next _ _ (decimal_text a) _ (number Weights 0 a (replicate 13 None) refl refl refl refl refl p)
+    ∙ next _ _ (decimal_text b) _ (number Weights 1 b (Some a ∷ replicate 12 None) refl refl refl refl refl q)
+    ∙ next _ _ (decimal_text c) _ (number Weights 2 c (Some a ∷ Some b ∷ replicate 11 None) refl refl refl refl refl r)
+    ∙ next _ _ (decimal_text d) _ (number Weights 3 d (Some a ∷ Some b ∷ Some c ∷ replicate 10 None) refl refl refl refl refl s)
+    ∙ next _ _ (decimal_text e) _ (number Weights 4 e (Some a ∷ Some b ∷ Some c ∷ Some d ∷ replicate 9 None) refl refl refl refl refl t)
     ∙ none _
 
 pub weights-words : (a b c d e : ℕ) → all_words (decimal_text a ∷ decimal_text b ∷ decimal_text c ∷ decimal_text d ∷ decimal_text e ∷ []) ≡ true
 weights-words a b c d e = rw (decimal_word a, decimal_word b, decimal_word c, decimal_word d, decimal_word e)
 
 -- ---- a play's CHART and METHOD
-chart_number : (g v : List ℕ) (n : ℕ) → n ≤ 65535 → hears (line 3 14 g v) (decimal_text n) ≡ line 3 15 (set g 11 1) (set v 11 n)
-unfolding hears judged value_for fills slot after
-chart_number g v n h = rw (decimal_back n (omega arith), le-ltb 65535 n h)
+chart_number : (o : List (Option ℕ)) (n : ℕ) → n ≤ 65535 → hears (line Play (Value 11) o) (decimal_text n) ≡ line Play (Value 12) (set o 11 (Some n))
+unfolding hears judged judged_as value_for fills slot after
+chart_number o n h = rw (decimal_back n (omega arith), le-ltb 65535 n h)
 
-method_named : (g v : List ℕ) (m : ℕ) (a b c : Bool) → eqb m 0 ≡ a → eqb m 1 ≡ b → eqb m 2 ≡ c → m ≤ 3 → hears (line 3 15 g v) (method_word m) ≡ line 3 2 (set g 12 1) (set v 12 m)
-unfolding hears judged value_for fills slot after method_of among says method_word ignore fast closest nearest
-method_named g v m true b c x y z h = rw (eqb-true m 0 x)
-method_named g v m false true c x y z h = rw (eqb-true m 1 y)
-method_named g v m false false true x y z h = rw (eqb-true m 2 z)
-method_named g v m false false false x y z h = let e : m ≡ 3 = omega (arith, eqb-false m 0 x, eqb-false m 1 y, eqb-false m 2 z) in rw e
+method_named : (o : List (Option ℕ)) (m : ℕ) (a b c : Bool) → eqb m 0 ≡ a → eqb m 1 ≡ b → eqb m 2 ≡ c → m ≤ 3
+    → hears (line Play (Value 12) o) (method_word m) ≡ line Play OptionName (set o 12 (Some m))
+unfolding hears judged judged_as value_for fills slot after method_of says method_word ignore fast closest nearest
+method_named o m true b c x y z h = rw (eqb-true m 0 x)
+method_named o m false true c x y z h = rw (eqb-true m 1 y)
+method_named o m false false true x y z h = rw (eqb-true m 2 z)
+method_named o m false false false x y z h = let e : m ≡ 3 = omega (arith, eqb-false m 0 x, eqb-false m 1 y, eqb-false m 2 z) in rw e
 
 method-word : (m : ℕ) (a b c : Bool) → eqb m 0 ≡ a → eqb m 1 ≡ b → eqb m 2 ≡ c → word (method_word m) ≡ true
 unfolding method_word ignore fast closest nearest
@@ -123,89 +132,84 @@ method-word m false false true x y z = rw (x, y, z)
 method-word m false false false x y z = rw (x, y, z)
 
 -- ---- options: what is not given changes nothing
-abbrev pub one : Bool → ℕ
-one b = cond b 1 0
+kept : (o : List (Option ℕ)) (f : ℕ) → get_or o f None ≡ None → o ≡ set o f None
+kept o f z = sym (ap (λ (n : Option ℕ). set o f n) (sym z) ∙ set-get_or o f None)
 
-abbrev pub val : Bool → ℕ → ℕ
-val b n = cond b n 0
+same : (o : List (Option ℕ)) (f : ℕ) → get_or o f None ≡ None → line Play OptionName o ≡ line Play OptionName (set o f None)
+same o f z = ap (λ (x : List (Option ℕ)). line Play OptionName x) (kept o f z)
 
-kept : (g : List ℕ) (f : ℕ) → get_or g f 0 ≡ 0 → g ≡ set g f 0
-kept g f z = sym (ap (λ (n : ℕ). set g f n) (sym z) ∙ set-get_or g f 0)
+value_named : (o : List (Option ℕ)) (x : List ℕ) (f : ℕ) → option_of x ≡ Some (Valued f) → get_or o (slot f) None ≡ None → hears (line Play OptionName o) x ≡ line Play (Value f) o
+unfolding hears judged judged_as names
+value_named o x f e z = rw (e, z)
 
-same : (g v : List ℕ) (f : ℕ) → get_or g f 0 ≡ 0 → get_or v f 0 ≡ 0 → line 3 2 g v ≡ line 3 2 (set g f 0) (set v f 0)
-same g v f z y = ap (λ (x : List ℕ). line 3 2 x v) (kept g f z) ∙ ap (λ (x : List ℕ). line 3 2 (set g f 0) x) (kept v f y)
+flag_named : (o : List (Option ℕ)) (x : List ℕ) (q : PlayOption) → option_of x ≡ Some q → get_or o (field_of q) None ≡ None → hears (line Play OptionName o) x ≡ unplaced (named (line Play OptionName o) q)
+unfolding hears judged judged_as names
+flag_named o x q e z = rw (e, z)
 
-named : (g v x : List ℕ) (o : ℕ) → option_of x ≡ o → ltb 16 o ≡ false → ltb o 14 ≡ true → get_or g (field_of o) 0 ≡ 0 → hears (line 3 2 g v) x ≡ line 3 (3 + o) g v
-unfolding hears judged names
-named g v x o e h k z = rw (e, h, z, k)
+field_same : (f : ℕ) → f ≤ 8 → slot f ≡ f
+unfolding slot
+field_same f h = rw (lt-ltb f 13 (omega arith))
 
-flag_named : (g v x : List ℕ) (o f : ℕ) → option_of x ≡ o → ltb 16 o ≡ false → ltb o 14 ≡ false → eqb o 14 ≡ false → field_of o ≡ f → get_or g f 0 ≡ 0 → hears (line 3 2 g v) x ≡ line 3 2 (set g f 1) (set v f 1)
-unfolding hears judged names
-flag_named g v x o f e h k j t z = rw (e, h, t, z, k, j)
-
-field_same : (o : ℕ) → o ≤ 8 → field_of o ≡ o
-unfolding field_of
-field_same o h = rw (lt-ltb o 13 (omega arith))
-
-after_option : (o : ℕ) → o ≤ 8 → after 3 o ≡ 2
+after_option : (f : ℕ) → f ≤ 8 → after (Some Play) f ≡ OptionName
 unfolding after
-after_option o h = rw (ne_eqb o 11 (λ z. omega arith))
+after_option f h = rw (ne_eqb f 11 (λ z. omega arith))
 
-module _ (g v x : List ℕ) (o : ℕ) (e : option_of x ≡ o) where
+module _ (o : List (Option ℕ)) (x : List ℕ) where
   -- one with a number; 6, the accuracy, is not such a one
-  numbered_heard : (b : Bool) (n : ℕ) → o ≤ 8 → (o ≡ 6 → ⊥) → get_or g o 0 ≡ 0 → get_or v o 0 ≡ 0 → n ≤ 4294967295
-      → hears_all (line 3 2 g v) (numbered b x n) ≡ line 3 2 (set g o (one b)) (set v o (val b n))
+  numbered_heard : (f : ℕ) → option_of x ≡ Some (Valued f) → (b : Bool) (n : ℕ) → f ≤ 8 → (f ≡ 6 → ⊥) → get_or o f None ≡ None → n ≤ 4294967295
+      → hears_all (line Play OptionName o) (numbered b x n) ≡ line Play OptionName (set o f (opt b n))
   unfolding numbered
-  numbered_heard false n l d z y h = none (line 3 2 g v) ∙ same g v o z y
-  numbered_heard true n l d z y h =
-      next (line 3 2 g v) (line 3 (3 + o) g v) x (decimal_text n ∷ []) (named g v x o e (le-ltb 16 o (omega arith)) (lt-ltb o 14 (omega arith)) (ap (λ (f : ℕ). get_or g f 0) (field_same o l) ∙ z))
-      ∙ next (line 3 (3 + o) g v) (line 3 2 (set g o 1) (set v o n)) (decimal_text n) []
-      (number 3 (3 + o) o n g v (ne_eqb (3 + o) 0 (λ q. omega arith)) (ne_eqb (3 + o) 1 (λ q. omega arith)) (ne_eqb (3 + o) 2 (λ q. omega arith)) (omega arith) (ne_eqb o 6 d)
-      (ne_eqb o 11 (λ q. omega arith)) (ne_eqb o 12 (λ q. omega arith)) (ne_eqb o 13 (λ q. omega arith)) (lt-ltb o 13 (omega arith)) h
-      ∙ ap (λ (w : ℕ). line 3 w (set g o 1) (set v o n)) (after_option o l))
-      ∙ none (line 3 2 (set g o 1) (set v o n))
+  numbered_heard f e false n l d z h = none (line Play OptionName o) ∙ same o f z
+  numbered_heard f e true n l d z h =
+      next (line Play OptionName o) (line Play (Value f) o) x (decimal_text n ∷ []) (value_named o x f e (ap (λ (i : ℕ). get_or o i None) (field_same f l) ∙ z))
+      ∙ next (line Play (Value f) o) (line Play OptionName (set o f (Some n))) (decimal_text n) []
+      (number Play f n o (ne_eqb f 6 d) (ne_eqb f 11 (λ q. omega arith)) (ne_eqb f 12 (λ q. omega arith)) (ne_eqb f 13 (λ q. omega arith)) (lt-ltb f 13 (omega arith)) h
+      ∙ ap (λ (w : Want). line Play w (set o f (Some n))) (after_option f l))
+      ∙ none (line Play OptionName (set o f (Some n)))
 
   -- one without
-  flagged_heard : (b : Bool) (f : ℕ) → ltb 16 o ≡ false → ltb o 14 ≡ false → eqb o 14 ≡ false → field_of o ≡ f → get_or g f 0 ≡ 0 → get_or v f 0 ≡ 0
-      → hears_all (line 3 2 g v) (flagged b x) ≡ line 3 2 (set g f (one b)) (set v f (one b))
+  flagged_heard : (q : PlayOption) → option_of x ≡ Some q → (b : Bool) → get_or o (field_of q) None ≡ None
+      → unplaced (named (line Play OptionName o) q) ≡ line Play OptionName (set o (field_of q) (Some 1))
+      → hears_all (line Play OptionName o) (flagged b x) ≡ line Play OptionName (set o (field_of q) (opt b 1))
   unfolding flagged
-  flagged_heard false f h k j t z y = none (line 3 2 g v) ∙ same g v f z y
-  flagged_heard true f h k j t z y = next (line 3 2 g v) (line 3 2 (set g f 1) (set v f 1)) x [] (flag_named g v x o f e h k j t z) ∙ none (line 3 2 (set g f 1) (set v f 1))
+  flagged_heard q e false z t = none (line Play OptionName o) ∙ same o (field_of q) z
+  flagged_heard q e true z t =
+      next (line Play OptionName o) (line Play OptionName (set o (field_of q) (Some 1))) x [] (flag_named o x q e z ∙ t) ∙ none (line Play OptionName (set o (field_of q) (Some 1)))
 
 -- the accuracy, by its percentage or by its bits
-percent_named : option_of acc ≡ 6
-unfolding option_of among says accbits n320 n300 n200 n100 n50 misses acc passed holds best worst classic
+percent_named : option_of acc ≡ Some (Valued 6)
+unfolding option_of says accbits n320 n300 n200 n100 n50 misses acc passed holds best worst classic
 percent_named = refl
 
-percent_read : (g v : List ℕ) (n k bits : ℕ) → Reads bits n k → hears (line 3 9 g v) (percent_text n k) ≡ line 3 2 (set g 6 1) (set v 6 bits)
-unfolding hears judged value_for fills slot after
-percent_read g v n k bits r = rw (percent_back r)
+percent_read : (o : List (Option ℕ)) (n k bits : ℕ) → Reads bits n k → hears (line Play (Value 6) o) (percent_text n k) ≡ line Play OptionName (set o 6 (Some bits))
+unfolding hears judged judged_as value_for fills slot after
+percent_read o n k bits r = rw (percent_back r)
 
-bits_named : option_of accbits ≡ 13
-unfolding option_of among says accbits n320 n300 n200 n100 n50 misses acc passed holds best worst classic
+bits_named : option_of accbits ≡ Some (Valued 13)
+unfolding option_of says accbits n320 n300 n200 n100 n50 misses acc passed holds best worst classic
 bits_named = refl
 
-bits_read : (g v : List ℕ) (n : ℕ) → n < 18446744073709551616 → hears (line 3 16 g v) (hex_text n) ≡ line 3 2 (set g 6 1) (set v 6 n)
-unfolding hears judged value_for fills slot after
-bits_read g v n h = rw (hex_back n h)
+bits_read : (o : List (Option ℕ)) (n : ℕ) → n < 18446744073709551616 → hears (line Play (Value 13) o) (hex_text n) ≡ line Play OptionName (set o 6 (Some n))
+unfolding hears judged judged_as value_for fills slot after
+bits_read o n h = rw (hex_back n h)
 
-words_heard : (g v : List ℕ) (p : Percentage) (n : ℕ) → shortest n ≡ p → get_or g 6 0 ≡ 0 → n < 18446744073709551616
-    → hears_all (line 3 2 g v) (words_by p n) ≡ line 3 2 (set g 6 1) (set v 6 n)
-unfolding words_by field_of
-words_heard g v (Has m k) n e z h =
-    next (line 3 2 g v) (line 3 9 g v) acc (percent_text m k ∷ []) (named g v acc 6 percent_named refl refl z)
-    ∙ next (line 3 9 g v) (line 3 2 (set g 6 1) (set v 6 n)) (percent_text m k) [] (percent_read g v m k n (shortest-reads n m k e))
-    ∙ none (line 3 2 (set g 6 1) (set v 6 n))
-words_heard g v Missing n e z h =
-    next (line 3 2 g v) (line 3 16 g v) accbits (hex_text n ∷ []) (named g v accbits 13 bits_named refl refl z)
-    ∙ next (line 3 16 g v) (line 3 2 (set g 6 1) (set v 6 n)) (hex_text n) [] (bits_read g v n h)
-    ∙ none (line 3 2 (set g 6 1) (set v 6 n))
+words_heard : (o : List (Option ℕ)) (p : Option Percentage) (n : ℕ) → shortest n ≡ p → get_or o 6 None ≡ None → n < 18446744073709551616
+    → hears_all (line Play OptionName o) (words_by p n) ≡ line Play OptionName (set o 6 (Some n))
+unfolding words_by slot
+words_heard o (Some p) n e z h =
+    next (line Play OptionName o) (line Play (Value 6) o) acc (percent_text p.digits p.places ∷ []) (value_named o acc 6 percent_named z)
+    ∙ next (line Play (Value 6) o) (line Play OptionName (set o 6 (Some n))) (percent_text p.digits p.places) [] (percent_read o p.digits p.places n (shortest-reads n p.digits p.places e))
+    ∙ none (line Play OptionName (set o 6 (Some n)))
+words_heard o None n e z h =
+    next (line Play OptionName o) (line Play (Value 13) o) accbits (hex_text n ∷ []) (value_named o accbits 13 bits_named z)
+    ∙ next (line Play (Value 13) o) (line Play OptionName (set o 6 (Some n))) (hex_text n) [] (bits_read o n h)
+    ∙ none (line Play OptionName (set o 6 (Some n)))
 
-accuracy_heard : (g v : List ℕ) (b : Bool) (n : ℕ) → get_or g 6 0 ≡ 0 → get_or v 6 0 ≡ 0 → n < 18446744073709551616
-    → hears_all (line 3 2 g v) (accuracy_words b n) ≡ line 3 2 (set g 6 (one b)) (set v 6 (val b n))
+accuracy_heard : (o : List (Option ℕ)) (b : Bool) (n : ℕ) → get_or o 6 None ≡ None → n < 18446744073709551616
+    → hears_all (line Play OptionName o) (accuracy_words b n) ≡ line Play OptionName (set o 6 (opt b n))
 unfolding accuracy_words
-accuracy_heard g v false n z y h = none (line 3 2 g v) ∙ same g v 6 z y
-accuracy_heard g v true n z y h = words_heard g v (shortest n) n refl z h
+accuracy_heard o false n z h = none (line Play OptionName o) ∙ same o 6 z
+accuracy_heard o true n z h = words_heard o (shortest n) n refl z h
 
 -- two groups of options
 then_heard : (l m n : Line) (a b : List (List ℕ)) → hears_all l a ≡ m → hears_all m b ≡ n → hears_all l (a ++ b) ≡ n
@@ -230,54 +234,54 @@ module _ (r : Row) (s : Small r) where
   p = r.presence
 
   abbrev line_begun : Line
-  line_begun = line 3 2 (0 ∷ 0 ∷ 0 ∷ 0 ∷ 0 ∷ 0 ∷ 0 ∷ 0 ∷ 0 ∷ 0 ∷ 0 ∷ 1 ∷ 1 ∷ []) (0 ∷ 0 ∷ 0 ∷ 0 ∷ 0 ∷ 0 ∷ 0 ∷ 0 ∷ 0 ∷ 0 ∷ 0 ∷ r.chart ∷ r.method ∷ [])
+  line_begun = line Play OptionName (None ∷ None ∷ None ∷ None ∷ None ∷ None ∷ None ∷ None ∷ None ∷ None ∷ None ∷ Some r.chart ∷ Some r.method ∷ [])
 
   abbrev line_flagged : Line
-  line_flagged = line 3 2 (0 ∷ 0 ∷ 0 ∷ 0 ∷ 0 ∷ 0 ∷ 0 ∷ 0 ∷ 0 ∷ one (eqb r.priority 1) ∷ one (eqb r.classic 1) ∷ 1 ∷ 1 ∷ []) (0 ∷ 0 ∷ 0 ∷ 0 ∷ 0 ∷ 0 ∷ 0 ∷ 0 ∷ 0 ∷ one (eqb r.priority 1) ∷ one (eqb r.classic 1) ∷ r.chart ∷ r.method ∷ [])
+  line_flagged = line Play OptionName (None ∷ None ∷ None ∷ None ∷ None ∷ None ∷ None ∷ None ∷ None ∷ opt (eqb r.priority 1) 1 ∷ opt (eqb r.classic 1) 1 ∷ Some r.chart ∷ Some r.method ∷ [])
 
   abbrev line_high : Line
-  line_high = line 3 2 (one (has p 1) ∷ one (has p 2) ∷ one (has p 4) ∷ 0 ∷ 0 ∷ 0 ∷ 0 ∷ 0 ∷ 0 ∷ one (eqb r.priority 1) ∷ one (eqb r.classic 1) ∷ 1 ∷ 1 ∷ []) (val (has p 1) r.n320 ∷ val (has p 2) r.n300 ∷ val (has p 4) r.n200 ∷ 0 ∷ 0 ∷ 0 ∷ 0 ∷ 0 ∷ 0 ∷ one (eqb r.priority 1) ∷ one (eqb r.classic 1) ∷ r.chart ∷ r.method ∷ [])
+  line_high = line Play OptionName (opt (has p 1) r.n320 ∷ opt (has p 2) r.n300 ∷ opt (has p 4) r.n200 ∷ None ∷ None ∷ None ∷ None ∷ None ∷ None ∷ opt (eqb r.priority 1) 1 ∷ opt (eqb r.classic 1) 1 ∷ Some r.chart ∷ Some r.method ∷ [])
 
   abbrev line_low : Line
-  line_low = line 3 2 (one (has p 1) ∷ one (has p 2) ∷ one (has p 4) ∷ one (has p 8) ∷ one (has p 16) ∷ one (has p 32) ∷ 0 ∷ 0 ∷ 0 ∷ one (eqb r.priority 1) ∷ one (eqb r.classic 1) ∷ 1 ∷ 1 ∷ []) (val (has p 1) r.n320 ∷ val (has p 2) r.n300 ∷ val (has p 4) r.n200 ∷ val (has p 8) r.n100 ∷ val (has p 16) r.n50 ∷ val (has p 32) r.misses ∷ 0 ∷ 0 ∷ 0 ∷ one (eqb r.priority 1) ∷ one (eqb r.classic 1) ∷ r.chart ∷ r.method ∷ [])
+  line_low = line Play OptionName (opt (has p 1) r.n320 ∷ opt (has p 2) r.n300 ∷ opt (has p 4) r.n200 ∷ opt (has p 8) r.n100 ∷ opt (has p 16) r.n50 ∷ opt (has p 32) r.misses ∷ None ∷ None ∷ None ∷ opt (eqb r.priority 1) 1 ∷ opt (eqb r.classic 1) 1 ∷ Some r.chart ∷ Some r.method ∷ [])
 
   abbrev line_reached : Line
-  line_reached = line 3 2 (one (has p 1) ∷ one (has p 2) ∷ one (has p 4) ∷ one (has p 8) ∷ one (has p 16) ∷ one (has p 32) ∷ 0 ∷ one (has p 128) ∷ one (eqb r.holds_given 1) ∷ one (eqb r.priority 1) ∷ one (eqb r.classic 1) ∷ 1 ∷ 1 ∷ []) (val (has p 1) r.n320 ∷ val (has p 2) r.n300 ∷ val (has p 4) r.n200 ∷ val (has p 8) r.n100 ∷ val (has p 16) r.n50 ∷ val (has p 32) r.misses ∷ 0 ∷ val (has p 128) r.passed ∷ val (eqb r.holds_given 1) r.holds_passed ∷ one (eqb r.priority 1) ∷ one (eqb r.classic 1) ∷ r.chart ∷ r.method ∷ [])
+  line_reached = line Play OptionName (opt (has p 1) r.n320 ∷ opt (has p 2) r.n300 ∷ opt (has p 4) r.n200 ∷ opt (has p 8) r.n100 ∷ opt (has p 16) r.n50 ∷ opt (has p 32) r.misses ∷ None ∷ opt (has p 128) r.passed ∷ opt (eqb r.holds_given 1) r.holds_passed ∷ opt (eqb r.priority 1) 1 ∷ opt (eqb r.classic 1) 1 ∷ Some r.chart ∷ Some r.method ∷ [])
 
   abbrev pub play_line : Line
-  play_line = line 3 2 (one (has p 1) ∷ one (has p 2) ∷ one (has p 4) ∷ one (has p 8) ∷ one (has p 16) ∷ one (has p 32) ∷ one (has p 64) ∷ one (has p 128) ∷ one (eqb r.holds_given 1) ∷ one (eqb r.priority 1) ∷ one (eqb r.classic 1) ∷ 1 ∷ 1 ∷ []) (val (has p 1) r.n320 ∷ val (has p 2) r.n300 ∷ val (has p 4) r.n200 ∷ val (has p 8) r.n100 ∷ val (has p 16) r.n50 ∷ val (has p 32) r.misses ∷ val (has p 64) r.acc ∷ val (has p 128) r.passed ∷ val (eqb r.holds_given 1) r.holds_passed ∷ one (eqb r.priority 1) ∷ one (eqb r.classic 1) ∷ r.chart ∷ r.method ∷ [])
+  play_line = line Play OptionName (opt (has p 1) r.n320 ∷ opt (has p 2) r.n300 ∷ opt (has p 4) r.n200 ∷ opt (has p 8) r.n100 ∷ opt (has p 16) r.n50 ∷ opt (has p 32) r.misses ∷ opt (has p 64) r.acc ∷ opt (has p 128) r.passed ∷ opt (eqb r.holds_given 1) r.holds_passed ∷ opt (eqb r.priority 1) 1 ∷ opt (eqb r.classic 1) 1 ∷ Some r.chart ∷ Some r.method ∷ [])
 
   flags_heard : hears_all line_begun (flag_words r) ≡ line_flagged
-  unfolding flag_words field_of option_of among says n320 n300 n200 n100 n50 misses acc passed holds accbits best worst classic
+  unfolding flag_words option_of says n320 n300 n200 n100 n50 misses acc passed holds accbits best worst classic
   flags_heard =
-      then_heard line_begun (line 3 2 (0 ∷ 0 ∷ 0 ∷ 0 ∷ 0 ∷ 0 ∷ 0 ∷ 0 ∷ 0 ∷ one (eqb r.priority 1) ∷ 0 ∷ 1 ∷ 1 ∷ []) (0 ∷ 0 ∷ 0 ∷ 0 ∷ 0 ∷ 0 ∷ 0 ∷ 0 ∷ 0 ∷ one (eqb r.priority 1) ∷ 0 ∷ r.chart ∷ r.method ∷ [])) line_flagged (flagged (eqb r.priority 1) worst) (flagged (eqb r.classic 1) classic)
-      (flagged_heard (0 ∷ 0 ∷ 0 ∷ 0 ∷ 0 ∷ 0 ∷ 0 ∷ 0 ∷ 0 ∷ 0 ∷ 0 ∷ 1 ∷ 1 ∷ []) (0 ∷ 0 ∷ 0 ∷ 0 ∷ 0 ∷ 0 ∷ 0 ∷ 0 ∷ 0 ∷ 0 ∷ 0 ∷ r.chart ∷ r.method ∷ []) worst 15 refl (eqb r.priority 1) 9 refl refl refl refl refl refl)
-      (flagged_heard (0 ∷ 0 ∷ 0 ∷ 0 ∷ 0 ∷ 0 ∷ 0 ∷ 0 ∷ 0 ∷ one (eqb r.priority 1) ∷ 0 ∷ 1 ∷ 1 ∷ []) (0 ∷ 0 ∷ 0 ∷ 0 ∷ 0 ∷ 0 ∷ 0 ∷ 0 ∷ 0 ∷ one (eqb r.priority 1) ∷ 0 ∷ r.chart ∷ r.method ∷ []) classic 16 refl (eqb r.classic 1) 10 refl refl refl refl refl refl)
+      then_heard line_begun (line Play OptionName (None ∷ None ∷ None ∷ None ∷ None ∷ None ∷ None ∷ None ∷ None ∷ opt (eqb r.priority 1) 1 ∷ None ∷ Some r.chart ∷ Some r.method ∷ [])) line_flagged (flagged (eqb r.priority 1) worst) (flagged (eqb r.classic 1) classic)
+      (flagged_heard (None ∷ None ∷ None ∷ None ∷ None ∷ None ∷ None ∷ None ∷ None ∷ None ∷ None ∷ Some r.chart ∷ Some r.method ∷ []) worst Worst refl (eqb r.priority 1) refl refl)
+      (flagged_heard (None ∷ None ∷ None ∷ None ∷ None ∷ None ∷ None ∷ None ∷ None ∷ opt (eqb r.priority 1) 1 ∷ None ∷ Some r.chart ∷ Some r.method ∷ []) classic Classic refl (eqb r.classic 1) refl refl)
 
   high_heard : hears_all line_flagged (high_words r) ≡ line_high
-  unfolding high_words option_of among says n320 n300 n200 n100 n50 misses acc passed holds accbits best worst classic
+  unfolding high_words option_of says n320 n300 n200 n100 n50 misses acc passed holds accbits best worst classic
   high_heard =
-      then_heard line_flagged (line 3 2 (one (has p 1) ∷ one (has p 2) ∷ 0 ∷ 0 ∷ 0 ∷ 0 ∷ 0 ∷ 0 ∷ 0 ∷ one (eqb r.priority 1) ∷ one (eqb r.classic 1) ∷ 1 ∷ 1 ∷ []) (val (has p 1) r.n320 ∷ val (has p 2) r.n300 ∷ 0 ∷ 0 ∷ 0 ∷ 0 ∷ 0 ∷ 0 ∷ 0 ∷ one (eqb r.priority 1) ∷ one (eqb r.classic 1) ∷ r.chart ∷ r.method ∷ [])) line_high ((numbered (has p 1) n320 r.n320) ++ (numbered (has p 2) n300 r.n300)) (numbered (has p 4) n200 r.n200)
-      (then_heard line_flagged (line 3 2 (one (has p 1) ∷ 0 ∷ 0 ∷ 0 ∷ 0 ∷ 0 ∷ 0 ∷ 0 ∷ 0 ∷ one (eqb r.priority 1) ∷ one (eqb r.classic 1) ∷ 1 ∷ 1 ∷ []) (val (has p 1) r.n320 ∷ 0 ∷ 0 ∷ 0 ∷ 0 ∷ 0 ∷ 0 ∷ 0 ∷ 0 ∷ one (eqb r.priority 1) ∷ one (eqb r.classic 1) ∷ r.chart ∷ r.method ∷ [])) (line 3 2 (one (has p 1) ∷ one (has p 2) ∷ 0 ∷ 0 ∷ 0 ∷ 0 ∷ 0 ∷ 0 ∷ 0 ∷ one (eqb r.priority 1) ∷ one (eqb r.classic 1) ∷ 1 ∷ 1 ∷ []) (val (has p 1) r.n320 ∷ val (has p 2) r.n300 ∷ 0 ∷ 0 ∷ 0 ∷ 0 ∷ 0 ∷ 0 ∷ 0 ∷ one (eqb r.priority 1) ∷ one (eqb r.classic 1) ∷ r.chart ∷ r.method ∷ [])) (numbered (has p 1) n320 r.n320) (numbered (has p 2) n300 r.n300)
-      (numbered_heard (0 ∷ 0 ∷ 0 ∷ 0 ∷ 0 ∷ 0 ∷ 0 ∷ 0 ∷ 0 ∷ one (eqb r.priority 1) ∷ one (eqb r.classic 1) ∷ 1 ∷ 1 ∷ []) (0 ∷ 0 ∷ 0 ∷ 0 ∷ 0 ∷ 0 ∷ 0 ∷ 0 ∷ 0 ∷ one (eqb r.priority 1) ∷ one (eqb r.classic 1) ∷ r.chart ∷ r.method ∷ []) n320 0 refl (has p 1) r.n320 (omega arith) (λ z. omega arith) refl refl s.n320)
-      (numbered_heard (one (has p 1) ∷ 0 ∷ 0 ∷ 0 ∷ 0 ∷ 0 ∷ 0 ∷ 0 ∷ 0 ∷ one (eqb r.priority 1) ∷ one (eqb r.classic 1) ∷ 1 ∷ 1 ∷ []) (val (has p 1) r.n320 ∷ 0 ∷ 0 ∷ 0 ∷ 0 ∷ 0 ∷ 0 ∷ 0 ∷ 0 ∷ one (eqb r.priority 1) ∷ one (eqb r.classic 1) ∷ r.chart ∷ r.method ∷ []) n300 1 refl (has p 2) r.n300 (omega arith) (λ z. omega arith) refl refl s.n300))
-      (numbered_heard (one (has p 1) ∷ one (has p 2) ∷ 0 ∷ 0 ∷ 0 ∷ 0 ∷ 0 ∷ 0 ∷ 0 ∷ one (eqb r.priority 1) ∷ one (eqb r.classic 1) ∷ 1 ∷ 1 ∷ []) (val (has p 1) r.n320 ∷ val (has p 2) r.n300 ∷ 0 ∷ 0 ∷ 0 ∷ 0 ∷ 0 ∷ 0 ∷ 0 ∷ one (eqb r.priority 1) ∷ one (eqb r.classic 1) ∷ r.chart ∷ r.method ∷ []) n200 2 refl (has p 4) r.n200 (omega arith) (λ z. omega arith) refl refl s.n200)
+      then_heard line_flagged (line Play OptionName (opt (has p 1) r.n320 ∷ opt (has p 2) r.n300 ∷ None ∷ None ∷ None ∷ None ∷ None ∷ None ∷ None ∷ opt (eqb r.priority 1) 1 ∷ opt (eqb r.classic 1) 1 ∷ Some r.chart ∷ Some r.method ∷ [])) line_high ((numbered (has p 1) n320 r.n320) ++ (numbered (has p 2) n300 r.n300)) (numbered (has p 4) n200 r.n200)
+      (then_heard line_flagged (line Play OptionName (opt (has p 1) r.n320 ∷ None ∷ None ∷ None ∷ None ∷ None ∷ None ∷ None ∷ None ∷ opt (eqb r.priority 1) 1 ∷ opt (eqb r.classic 1) 1 ∷ Some r.chart ∷ Some r.method ∷ [])) (line Play OptionName (opt (has p 1) r.n320 ∷ opt (has p 2) r.n300 ∷ None ∷ None ∷ None ∷ None ∷ None ∷ None ∷ None ∷ opt (eqb r.priority 1) 1 ∷ opt (eqb r.classic 1) 1 ∷ Some r.chart ∷ Some r.method ∷ [])) (numbered (has p 1) n320 r.n320) (numbered (has p 2) n300 r.n300)
+      (numbered_heard (None ∷ None ∷ None ∷ None ∷ None ∷ None ∷ None ∷ None ∷ None ∷ opt (eqb r.priority 1) 1 ∷ opt (eqb r.classic 1) 1 ∷ Some r.chart ∷ Some r.method ∷ []) n320 0 refl (has p 1) r.n320 (omega arith) (λ z. omega arith) refl s.n320)
+      (numbered_heard (opt (has p 1) r.n320 ∷ None ∷ None ∷ None ∷ None ∷ None ∷ None ∷ None ∷ None ∷ opt (eqb r.priority 1) 1 ∷ opt (eqb r.classic 1) 1 ∷ Some r.chart ∷ Some r.method ∷ []) n300 1 refl (has p 2) r.n300 (omega arith) (λ z. omega arith) refl s.n300))
+      (numbered_heard (opt (has p 1) r.n320 ∷ opt (has p 2) r.n300 ∷ None ∷ None ∷ None ∷ None ∷ None ∷ None ∷ None ∷ opt (eqb r.priority 1) 1 ∷ opt (eqb r.classic 1) 1 ∷ Some r.chart ∷ Some r.method ∷ []) n200 2 refl (has p 4) r.n200 (omega arith) (λ z. omega arith) refl s.n200)
 
   low_heard : hears_all line_high (low_words r) ≡ line_low
-  unfolding low_words option_of among says n320 n300 n200 n100 n50 misses acc passed holds accbits best worst classic
+  unfolding low_words option_of says n320 n300 n200 n100 n50 misses acc passed holds accbits best worst classic
   low_heard =
-      then_heard line_high (line 3 2 (one (has p 1) ∷ one (has p 2) ∷ one (has p 4) ∷ one (has p 8) ∷ one (has p 16) ∷ 0 ∷ 0 ∷ 0 ∷ 0 ∷ one (eqb r.priority 1) ∷ one (eqb r.classic 1) ∷ 1 ∷ 1 ∷ []) (val (has p 1) r.n320 ∷ val (has p 2) r.n300 ∷ val (has p 4) r.n200 ∷ val (has p 8) r.n100 ∷ val (has p 16) r.n50 ∷ 0 ∷ 0 ∷ 0 ∷ 0 ∷ one (eqb r.priority 1) ∷ one (eqb r.classic 1) ∷ r.chart ∷ r.method ∷ [])) line_low ((numbered (has p 8) n100 r.n100) ++ (numbered (has p 16) n50 r.n50)) (numbered (has p 32) misses r.misses)
-      (then_heard line_high (line 3 2 (one (has p 1) ∷ one (has p 2) ∷ one (has p 4) ∷ one (has p 8) ∷ 0 ∷ 0 ∷ 0 ∷ 0 ∷ 0 ∷ one (eqb r.priority 1) ∷ one (eqb r.classic 1) ∷ 1 ∷ 1 ∷ []) (val (has p 1) r.n320 ∷ val (has p 2) r.n300 ∷ val (has p 4) r.n200 ∷ val (has p 8) r.n100 ∷ 0 ∷ 0 ∷ 0 ∷ 0 ∷ 0 ∷ one (eqb r.priority 1) ∷ one (eqb r.classic 1) ∷ r.chart ∷ r.method ∷ [])) (line 3 2 (one (has p 1) ∷ one (has p 2) ∷ one (has p 4) ∷ one (has p 8) ∷ one (has p 16) ∷ 0 ∷ 0 ∷ 0 ∷ 0 ∷ one (eqb r.priority 1) ∷ one (eqb r.classic 1) ∷ 1 ∷ 1 ∷ []) (val (has p 1) r.n320 ∷ val (has p 2) r.n300 ∷ val (has p 4) r.n200 ∷ val (has p 8) r.n100 ∷ val (has p 16) r.n50 ∷ 0 ∷ 0 ∷ 0 ∷ 0 ∷ one (eqb r.priority 1) ∷ one (eqb r.classic 1) ∷ r.chart ∷ r.method ∷ [])) (numbered (has p 8) n100 r.n100) (numbered (has p 16) n50 r.n50)
-      (numbered_heard (one (has p 1) ∷ one (has p 2) ∷ one (has p 4) ∷ 0 ∷ 0 ∷ 0 ∷ 0 ∷ 0 ∷ 0 ∷ one (eqb r.priority 1) ∷ one (eqb r.classic 1) ∷ 1 ∷ 1 ∷ []) (val (has p 1) r.n320 ∷ val (has p 2) r.n300 ∷ val (has p 4) r.n200 ∷ 0 ∷ 0 ∷ 0 ∷ 0 ∷ 0 ∷ 0 ∷ one (eqb r.priority 1) ∷ one (eqb r.classic 1) ∷ r.chart ∷ r.method ∷ []) n100 3 refl (has p 8) r.n100 (omega arith) (λ z. omega arith) refl refl s.n100)
-      (numbered_heard (one (has p 1) ∷ one (has p 2) ∷ one (has p 4) ∷ one (has p 8) ∷ 0 ∷ 0 ∷ 0 ∷ 0 ∷ 0 ∷ one (eqb r.priority 1) ∷ one (eqb r.classic 1) ∷ 1 ∷ 1 ∷ []) (val (has p 1) r.n320 ∷ val (has p 2) r.n300 ∷ val (has p 4) r.n200 ∷ val (has p 8) r.n100 ∷ 0 ∷ 0 ∷ 0 ∷ 0 ∷ 0 ∷ one (eqb r.priority 1) ∷ one (eqb r.classic 1) ∷ r.chart ∷ r.method ∷ []) n50 4 refl (has p 16) r.n50 (omega arith) (λ z. omega arith) refl refl s.n50))
-      (numbered_heard (one (has p 1) ∷ one (has p 2) ∷ one (has p 4) ∷ one (has p 8) ∷ one (has p 16) ∷ 0 ∷ 0 ∷ 0 ∷ 0 ∷ one (eqb r.priority 1) ∷ one (eqb r.classic 1) ∷ 1 ∷ 1 ∷ []) (val (has p 1) r.n320 ∷ val (has p 2) r.n300 ∷ val (has p 4) r.n200 ∷ val (has p 8) r.n100 ∷ val (has p 16) r.n50 ∷ 0 ∷ 0 ∷ 0 ∷ 0 ∷ one (eqb r.priority 1) ∷ one (eqb r.classic 1) ∷ r.chart ∷ r.method ∷ []) misses 5 refl (has p 32) r.misses (omega arith) (λ z. omega arith) refl refl s.misses)
+      then_heard line_high (line Play OptionName (opt (has p 1) r.n320 ∷ opt (has p 2) r.n300 ∷ opt (has p 4) r.n200 ∷ opt (has p 8) r.n100 ∷ opt (has p 16) r.n50 ∷ None ∷ None ∷ None ∷ None ∷ opt (eqb r.priority 1) 1 ∷ opt (eqb r.classic 1) 1 ∷ Some r.chart ∷ Some r.method ∷ [])) line_low ((numbered (has p 8) n100 r.n100) ++ (numbered (has p 16) n50 r.n50)) (numbered (has p 32) misses r.misses)
+      (then_heard line_high (line Play OptionName (opt (has p 1) r.n320 ∷ opt (has p 2) r.n300 ∷ opt (has p 4) r.n200 ∷ opt (has p 8) r.n100 ∷ None ∷ None ∷ None ∷ None ∷ None ∷ opt (eqb r.priority 1) 1 ∷ opt (eqb r.classic 1) 1 ∷ Some r.chart ∷ Some r.method ∷ [])) (line Play OptionName (opt (has p 1) r.n320 ∷ opt (has p 2) r.n300 ∷ opt (has p 4) r.n200 ∷ opt (has p 8) r.n100 ∷ opt (has p 16) r.n50 ∷ None ∷ None ∷ None ∷ None ∷ opt (eqb r.priority 1) 1 ∷ opt (eqb r.classic 1) 1 ∷ Some r.chart ∷ Some r.method ∷ [])) (numbered (has p 8) n100 r.n100) (numbered (has p 16) n50 r.n50)
+      (numbered_heard (opt (has p 1) r.n320 ∷ opt (has p 2) r.n300 ∷ opt (has p 4) r.n200 ∷ None ∷ None ∷ None ∷ None ∷ None ∷ None ∷ opt (eqb r.priority 1) 1 ∷ opt (eqb r.classic 1) 1 ∷ Some r.chart ∷ Some r.method ∷ []) n100 3 refl (has p 8) r.n100 (omega arith) (λ z. omega arith) refl s.n100)
+      (numbered_heard (opt (has p 1) r.n320 ∷ opt (has p 2) r.n300 ∷ opt (has p 4) r.n200 ∷ opt (has p 8) r.n100 ∷ None ∷ None ∷ None ∷ None ∷ None ∷ opt (eqb r.priority 1) 1 ∷ opt (eqb r.classic 1) 1 ∷ Some r.chart ∷ Some r.method ∷ []) n50 4 refl (has p 16) r.n50 (omega arith) (λ z. omega arith) refl s.n50))
+      (numbered_heard (opt (has p 1) r.n320 ∷ opt (has p 2) r.n300 ∷ opt (has p 4) r.n200 ∷ opt (has p 8) r.n100 ∷ opt (has p 16) r.n50 ∷ None ∷ None ∷ None ∷ None ∷ opt (eqb r.priority 1) 1 ∷ opt (eqb r.classic 1) 1 ∷ Some r.chart ∷ Some r.method ∷ []) misses 5 refl (has p 32) r.misses (omega arith) (λ z. omega arith) refl s.misses)
 
   reached_heard : hears_all line_low (reached_words r) ≡ line_reached
-  unfolding reached_words option_of among says n320 n300 n200 n100 n50 misses acc passed holds accbits best worst classic
+  unfolding reached_words option_of says n320 n300 n200 n100 n50 misses acc passed holds accbits best worst classic
   reached_heard =
-      then_heard line_low (line 3 2 (one (has p 1) ∷ one (has p 2) ∷ one (has p 4) ∷ one (has p 8) ∷ one (has p 16) ∷ one (has p 32) ∷ 0 ∷ one (has p 128) ∷ 0 ∷ one (eqb r.priority 1) ∷ one (eqb r.classic 1) ∷ 1 ∷ 1 ∷ []) (val (has p 1) r.n320 ∷ val (has p 2) r.n300 ∷ val (has p 4) r.n200 ∷ val (has p 8) r.n100 ∷ val (has p 16) r.n50 ∷ val (has p 32) r.misses ∷ 0 ∷ val (has p 128) r.passed ∷ 0 ∷ one (eqb r.priority 1) ∷ one (eqb r.classic 1) ∷ r.chart ∷ r.method ∷ [])) line_reached (numbered (has p 128) passed r.passed) (numbered (eqb r.holds_given 1) holds r.holds_passed)
-      (numbered_heard (one (has p 1) ∷ one (has p 2) ∷ one (has p 4) ∷ one (has p 8) ∷ one (has p 16) ∷ one (has p 32) ∷ 0 ∷ 0 ∷ 0 ∷ one (eqb r.priority 1) ∷ one (eqb r.classic 1) ∷ 1 ∷ 1 ∷ []) (val (has p 1) r.n320 ∷ val (has p 2) r.n300 ∷ val (has p 4) r.n200 ∷ val (has p 8) r.n100 ∷ val (has p 16) r.n50 ∷ val (has p 32) r.misses ∷ 0 ∷ 0 ∷ 0 ∷ one (eqb r.priority 1) ∷ one (eqb r.classic 1) ∷ r.chart ∷ r.method ∷ []) passed 7 refl (has p 128) r.passed (omega arith) (λ z. omega arith) refl refl s.passed)
-      (numbered_heard (one (has p 1) ∷ one (has p 2) ∷ one (has p 4) ∷ one (has p 8) ∷ one (has p 16) ∷ one (has p 32) ∷ 0 ∷ one (has p 128) ∷ 0 ∷ one (eqb r.priority 1) ∷ one (eqb r.classic 1) ∷ 1 ∷ 1 ∷ []) (val (has p 1) r.n320 ∷ val (has p 2) r.n300 ∷ val (has p 4) r.n200 ∷ val (has p 8) r.n100 ∷ val (has p 16) r.n50 ∷ val (has p 32) r.misses ∷ 0 ∷ val (has p 128) r.passed ∷ 0 ∷ one (eqb r.priority 1) ∷ one (eqb r.classic 1) ∷ r.chart ∷ r.method ∷ []) holds 8 refl (eqb r.holds_given 1) r.holds_passed (omega arith) (λ z. omega arith) refl refl s.holds)
+      then_heard line_low (line Play OptionName (opt (has p 1) r.n320 ∷ opt (has p 2) r.n300 ∷ opt (has p 4) r.n200 ∷ opt (has p 8) r.n100 ∷ opt (has p 16) r.n50 ∷ opt (has p 32) r.misses ∷ None ∷ opt (has p 128) r.passed ∷ None ∷ opt (eqb r.priority 1) 1 ∷ opt (eqb r.classic 1) 1 ∷ Some r.chart ∷ Some r.method ∷ [])) line_reached (numbered (has p 128) passed r.passed) (numbered (eqb r.holds_given 1) holds r.holds_passed)
+      (numbered_heard (opt (has p 1) r.n320 ∷ opt (has p 2) r.n300 ∷ opt (has p 4) r.n200 ∷ opt (has p 8) r.n100 ∷ opt (has p 16) r.n50 ∷ opt (has p 32) r.misses ∷ None ∷ None ∷ None ∷ opt (eqb r.priority 1) 1 ∷ opt (eqb r.classic 1) 1 ∷ Some r.chart ∷ Some r.method ∷ []) passed 7 refl (has p 128) r.passed (omega arith) (λ z. omega arith) refl s.passed)
+      (numbered_heard (opt (has p 1) r.n320 ∷ opt (has p 2) r.n300 ∷ opt (has p 4) r.n200 ∷ opt (has p 8) r.n100 ∷ opt (has p 16) r.n50 ∷ opt (has p 32) r.misses ∷ None ∷ opt (has p 128) r.passed ∷ None ∷ opt (eqb r.priority 1) 1 ∷ opt (eqb r.classic 1) 1 ∷ Some r.chart ∷ Some r.method ∷ []) holds 8 refl (eqb r.holds_given 1) r.holds_passed (omega arith) (λ z. omega arith) refl s.holds)
 
   options_heard : hears_all line_begun (option_words r) ≡ play_line
   unfolding option_words
@@ -286,14 +290,14 @@ module _ (r : Row) (s : Small r) where
       (then_heard line_begun line_low line_reached (flag_words r ++ high_words r ++ low_words r) (reached_words r)
       (then_heard line_begun line_high line_low (flag_words r ++ high_words r) (low_words r)
       (then_heard line_begun line_flagged line_high (flag_words r) (high_words r) flags_heard high_heard) low_heard) reached_heard)
-      (accuracy_heard (one (has p 1) ∷ one (has p 2) ∷ one (has p 4) ∷ one (has p 8) ∷ one (has p 16) ∷ one (has p 32) ∷ 0 ∷ one (has p 128) ∷ one (eqb r.holds_given 1) ∷ one (eqb r.priority 1) ∷ one (eqb r.classic 1) ∷ 1 ∷ 1 ∷ []) (val (has p 1) r.n320 ∷ val (has p 2) r.n300 ∷ val (has p 4) r.n200 ∷ val (has p 8) r.n100 ∷ val (has p 16) r.n50 ∷ val (has p 32) r.misses ∷ 0 ∷ val (has p 128) r.passed ∷ val (eqb r.holds_given 1) r.holds_passed ∷ one (eqb r.priority 1) ∷ one (eqb r.classic 1) ∷ r.chart ∷ r.method ∷ []) (has p 64) r.acc refl refl s.acc)
+      (accuracy_heard (opt (has p 1) r.n320 ∷ opt (has p 2) r.n300 ∷ opt (has p 4) r.n200 ∷ opt (has p 8) r.n100 ∷ opt (has p 16) r.n50 ∷ opt (has p 32) r.misses ∷ None ∷ opt (has p 128) r.passed ∷ opt (eqb r.holds_given 1) r.holds_passed ∷ opt (eqb r.priority 1) 1 ∷ opt (eqb r.classic 1) 1 ∷ Some r.chart ∷ Some r.method ∷ []) (has p 64) r.acc refl s.acc)
 
   pub play_heard : hears_all fresh (play ∷ decimal_text r.chart ∷ method_word r.method ∷ option_words r) ≡ play_line
   play_heard =
       next fresh _ play _ play-opens
-      ∙ next _ _ (decimal_text r.chart) _ (chart_number (replicate 13 0) (replicate 13 0) r.chart s.chart)
+      ∙ next _ _ (decimal_text r.chart) _ (chart_number (replicate 13 None) r.chart s.chart)
       ∙ next _ line_begun (method_word r.method) _
-      (method_named (replicate 11 0 ++ (1 ∷ 0 ∷ [])) (replicate 11 0 ++ (r.chart ∷ 0 ∷ [])) r.method (eqb r.method 0) (eqb r.method 1) (eqb r.method 2) refl refl refl s.method)
+      (method_named (replicate 11 None ++ (Some r.chart ∷ None ∷ [])) r.method (eqb r.method 0) (eqb r.method 1) (eqb r.method 2) refl refl refl s.method)
       ∙ options_heard
 
 -- ---- its words are words
@@ -307,10 +311,10 @@ unfolding flagged
 flagged-words false x h = refl
 flagged-words true x h = rw h
 
-words-words : (p : Percentage) (n : ℕ) → all_words (words_by p n) ≡ true
+words-words : (p : Option Percentage) (n : ℕ) → all_words (words_by p n) ≡ true
 unfolding words_by acc accbits
-words-words (Has m k) n = rw (percent_word m k)
-words-words Missing n = rw (hex_word n)
+words-words (Some p) n = rw (percent_word p.digits p.places)
+words-words None n = rw (hex_word n)
 
 accuracy-words : (b : Bool) (n : ℕ) → all_words (accuracy_words b n) ≡ true
 unfolding accuracy_words

@@ -16,9 +16,11 @@ use Rattle.inspect.specs.Presence.{has}
 use Rattle.records.specs.Records.{chart_at, weights_at, row_at}
 use Rattle.records.specs.declared.Row.{Row}
 use Rattle.row_checks.specs.RowChecks.{left_over, holds_left, fields_left, unknown_row}
+use Rattle.std.specs.Prelude.{is_some}
+use Rattle.std.specs.Option.{unwrap_or}
 use Rattle.typed_line.specs.declared.Line.{Line}
 use Rattle.typed_records.specs.Records.{flag, value_bytes, presence, named_bytes, given_bytes, tail_bytes, play_bytes, record_bytes}
-use Rattle.round_trip.proofs.Lines.{line, one, val, chart_line, weights_line, Small, play_line}
+use Rattle.round_trip.proofs.Lines.{line, opt, chart_line, weights_line, Small, play_line}
 
 -- ---- parts of a list
 abbrev pub piece : List ℕ → ℕ → ℕ → List ℕ
@@ -77,7 +79,13 @@ binary f h =
     sum8 f (f / 2) (f / 4) (f / 8) (f / 16) (f / 32) (f / 64) (f / 128) (f / 1 % 2) (f / 2 % 2) (f / 4 % 2) (f / 8 % 2) (f / 16 % 2) (f / 32 % 2) (f / 64 % 2) (f / 128 % 2)
     (omega arith) (omega arith) (omega arith) (omega arith) (omega arith) (omega arith) (omega arith) (omega arith)
 
--- ---- a flag is 0 or 1
+-- ---- a field's value, and a flag, which is 0 or 1
+abbrev val : Bool → ℕ → ℕ
+val b n = unwrap_or (opt b n) 0
+
+abbrev one : Bool → ℕ
+one b = val b 1
+
 one_by : (x : ℕ) (b : Bool) → eqb x 1 ≡ b → x ≤ 1 → one b ≡ x
 one_by x true e h = sym (eqb-true x 1 e)
 one_by x false e h = let z : 0 ≡ x = omega (arith, eqb-false x 1 e) in z
@@ -85,12 +93,12 @@ one_by x false e h = let z : 0 ≡ x = omega (arith, eqb-false x 1 e) in z
 one-is : (x : ℕ) → x ≤ 1 → one (eqb x 1) ≡ x
 one-is x h = one_by x (eqb x 1) refl h
 
-flag_one : (b : Bool) → cond (eqb (one b) 0) 0 1 ≡ one b
-flag_one true = refl
-flag_one false = refl
+flag_one : (b : Bool) (n : ℕ) → cond (is_some (opt b n)) 1 0 ≡ one b
+flag_one true n = refl
+flag_one false n = refl
 
-flag_bit : (x : ℕ) → x ≤ 1 → cond (eqb (one (eqb x 1)) 0) 0 1 ≡ x
-flag_bit x h = flag_one (eqb x 1) ∙ one-is x h
+flag_bit : (x n : ℕ) → x ≤ 1 → cond (is_some (opt (eqb x 1) n)) 1 0 ≡ x
+flag_bit x n h = flag_one (eqb x 1) n ∙ one-is x h
 
 -- ---- what the checks leave
 neither : (a b : Bool) → (a || b) ≡ false → (a ≡ false) × (b ≡ false)
@@ -233,14 +241,14 @@ module _ (s : List ℕ) (b : (i : ℕ) → byte s i < 256) where
     presence_back =
         let f : ℕ = byte s (i + 5) in
         rw (
-          flag_bit (byte s (i + 5) / 1 % 2) (omega arith),
-          flag_bit (byte s (i + 5) / 2 % 2) (omega arith),
-          flag_bit (byte s (i + 5) / 4 % 2) (omega arith),
-          flag_bit (byte s (i + 5) / 8 % 2) (omega arith),
-          flag_bit (byte s (i + 5) / 16 % 2) (omega arith),
-          flag_bit (byte s (i + 5) / 32 % 2) (omega arith),
-          flag_bit (byte s (i + 5) / 64 % 2) (omega arith),
-          flag_bit (byte s (i + 5) / 128 % 2) (omega arith),
+          flag_bit (byte s (i + 5) / 1 % 2) r.n320 (omega arith),
+          flag_bit (byte s (i + 5) / 2 % 2) r.n300 (omega arith),
+          flag_bit (byte s (i + 5) / 4 % 2) r.n200 (omega arith),
+          flag_bit (byte s (i + 5) / 8 % 2) r.n100 (omega arith),
+          flag_bit (byte s (i + 5) / 16 % 2) r.n50 (omega arith),
+          flag_bit (byte s (i + 5) / 32 % 2) r.misses (omega arith),
+          flag_bit (byte s (i + 5) / 64 % 2) r.acc (omega arith),
+          flag_bit (byte s (i + 5) / 128 % 2) r.passed (omega arith),
         )
         (binary (byte s (i + 5)) (b (i + 5)))
 
@@ -261,7 +269,7 @@ module _ (s : List ℕ) (b : (i : ℕ) → byte s i < 256) where
         let e6 : i + 6 ≡ i + 4 + 2 = omega arith in
         let e7 : i + 7 ≡ i + 4 + 3 = omega arith in
         four_at s (i + 4) _ _ _ _ (omega arith) (same_byte (one (eqb (byte s (i + 4)) 1)) (byte s (i + 4)) (one-is (byte s (i + 4)) k.classic) (b (i + 4)))
-        (presence_back ∙ ap (byte s) e5) (flag_bit (byte s (i + 6)) c.given ∙ ap (byte s) e6) (sym c.zero ∙ ap (byte s) e7)
+        (presence_back ∙ ap (byte s) e5) (flag_bit (byte s (i + 6)) r.holds_passed c.given ∙ ap (byte s) e6) (sym c.zero ∙ ap (byte s) e7)
 
     count_back : (v j : ℕ) → j + 4 ≤ 48 → v ≡ u32_at s (i + j) → bytes4 v ≡ piece s (i + j) 4
     count_back v j h e = ap bytes4 e ∙ four_back (i + j) (omega arith)

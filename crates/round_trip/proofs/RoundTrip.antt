@@ -19,8 +19,8 @@ use Rattle.row_checks.specs.RowChecks.{unknown_row, fields_left}
 use Rattle.sheets_laws.specs.Sheets.{scoring_at, own_count, query_count, rows_at, row_of}
 use Rattle.typed_line.specs.Keywords.{chart, weights, play}
 use Rattle.typed_sheet.specs.declared.Tally.{Tally}
-use Rattle.typed_sheet.specs.declared.Typed.TheVariants.{Sheet}
-use Rattle.typed_sheet.specs.Typed.{tally_all, none, tally_of, sheet_size, sheet_bytes, Outcome, outcome_of, typed_sheet}
+use Rattle.std.specs.Prelude.{Ok}
+use Rattle.typed_sheet.specs.Typed.{counted, tally_all, none, tally_of, sheet_size, sheet_bytes, Outcome, outcome_of, typed_sheet}
 use Rattle.accuracy_text.specs.AccuracyText.{spaced}
 use Rattle.sheet_lines.specs.Lines.{line_text, chart_text, weights_text, play_text, method_word, option_words}
 use Rattle.typed_text.specs.declared.Places.{Places}
@@ -43,12 +43,12 @@ same_piece s i n = append-nil (piece s i n)
 
 -- a sheet of n bytes at the front of an output
 abbrev sheet_outcome : ℕ → List ℕ → List ℕ → Outcome
-sheet_outcome n x out = record { answer = Sheet n; bytes = x ++ drop n out }
+sheet_outcome n x out = record { answer = Ok n; bytes = x ++ drop n out }
 
-in_full : (text out : List ℕ) (t : Tally) → t.fault ≡ 0 → sheet_size t ≤ length out
-    → outcome_of text out t ≡ sheet_outcome (sheet_size t) (sheet_bytes text t.charts t.weights t.plays) out
+in_full : (text out : List ℕ) (t : Tally) → sheet_size t ≤ length out
+    → outcome_of text out (Ok t) ≡ sheet_outcome (sheet_size t) (sheet_bytes text t.charts t.weights t.plays) out
 unfolding outcome_of
-in_full text out t e k = rw (e, le-ltb (length out) (sheet_size t) k)
+in_full text out t k = rw (le-ltb (length out) (sheet_size t) k)
 
 -- what holds of 0, and of each number up to n where it holds of the one before
 climb : (P : ℕ → Type 0) (n : ℕ) → P 0 → ((a : ℕ) → a < n → P a → P (suc a)) → (a : ℕ) → a ≤ n → P a
@@ -229,16 +229,16 @@ module _ (s : List ℕ) (has : HasText s) (p : Places) (h : Placed s p) where
       refl (omega arith) (omega (arith, w.ends))
       ∙ take-length s)
 
-  size_is : sheet_size (tal p.charts p.own p.queries) ≡ length s
+  size_is : sheet_size (counted p.charts p.own p.queries) ≡ length s
   size_is = omega (arith, w.section, w.behind, w.ends)
 
-  read_again : (out : List ℕ) → length s ≤ length out → typed_sheet (text_of s) out ≡ record { answer = Sheet (length s); bytes = s ++ drop (length s) out }
+  read_again : (out : List ℕ) → length s ≤ length out → typed_sheet (text_of s) out ≡ record { answer = Ok (length s); bytes = s ++ drop (length s) out }
   unfolding typed_sheet
   read_again out k =
-      let t : Tally = tal p.charts p.own p.queries in
+      let t : Tally = counted p.charts p.own p.queries in
       let x : List ℕ = sheet_bytes (text_of s) p.charts p.own p.queries in
       ap (outcome_of (text_of s) out) text_tally
-      ∙ in_full (text_of s) out t refl (omega (arith, size_is))
+      ∙ in_full (text_of s) out t (omega (arith, size_is))
       ∙ ap (λ (n : ℕ). sheet_outcome n (sheet_bytes (text_of s) p.charts p.own p.queries) out) size_is
       ∙ ap (λ (x : List ℕ). sheet_outcome (length s) x out) text_bytes
 

@@ -12,8 +12,8 @@ use borrow.Author.Tests.{lt-ltb, le-ltb, eq-eqb, ne_eqb, ltb-true, ltb-false}
 use Rattle.text.specs.Text.{decimal_up_to, decimal_text}
 use Rattle.words.specs.Words.{small}
 use Rattle.words.specs.Values.{digits, number_of, hundredth, behind_point, before_point, percent_of, hex_digit, hex, hex_of}
-use Rattle.words.specs.declared.Value.{Value}
-use Rattle.words.specs.declared.Value.TheVariants.{Is}
+use Rattle.std.specs.Prelude.{Result, Ok}
+use Rattle.words.specs.declared.Fault.{Fault}
 use Rattle.percent.proofs.Found.{Reads}
 use Rattle.accuracy_text.specs.AccuracyText.{hex_letter, last_digits, hex_text, behind_text, percent_text}
 use Rattle.accuracy_text.proofs.Pieces.{digits-length, before_small}
@@ -33,7 +33,7 @@ point_in m v cs e h =
     rw (ne_eqb (48 + m % 10) 46 (λ z. omega arith), le-ltb (48 + m % 10) 48 (omega arith), le-ltb 57 (48 + m % 10) (omega arith), k, le-ltb 999 m h)
 
 -- what reads a digit behind those that gave v, up to a number, reads the digits of every number up to it
-module _ (f : List ℕ → ℕ → Value) (most : ℕ) (reads : (m v : ℕ) (cs : List ℕ) → v ≡ m / 10 → m ≤ most → f ((48 + m % 10) ∷ cs) v ≡ f cs m) where
+module _ (f : List ℕ → ℕ → Result ℕ Fault) (most : ℕ) (reads : (m v : ℕ) (cs : List ℕ) → v ≡ m / 10 → m ≤ most → f ((48 + m % 10) ∷ cs) v ≡ f cs m) where
   digit_one : (n : ℕ) (cs : List ℕ) → n < 10 → n ≤ most → f ((48 + n) ∷ cs) 0 ≡ f cs n
   digit_one n cs h l =
       let e : n % 10 ≡ n = omega arith in
@@ -80,7 +80,7 @@ decimal_some n = some-digits 19 n
 pub decimal_word : (n : ℕ) → word (decimal_text n) ≡ true
 decimal_word n = some_word (decimal_text n) (decimal_plain n) (decimal_some n)
 
-pub decimal_back : (n : ℕ) → n ≤ 4294967295 → number_of (decimal_text n) ≡ Is n
+pub decimal_back : (n : ℕ) → n ≤ 4294967295 → number_of (decimal_text n) ≡ Ok n
 unfolding number_of decimal_text digits
 decimal_back n h =
     let z : length (decimal_up_to 19 n) ≡ 0 → ⊥ = λ e. omega (arith, some-digits 19 n) in
@@ -129,14 +129,14 @@ hex-all : (n : ℕ) → all_plain (hex_text n) ≡ true
 unfolding hex_text
 hex-all n = last_plain 16 16 n [] (omega arith) (omega arith) refl
 
-hex_read : (n : ℕ) → n < 18446744073709551616 → hex (hex_text n) 0 ≡ Is n
+hex_read : (n : ℕ) → n < 18446744073709551616 → hex (hex_text n) 0 ≡ Ok n
 unfolding hex_text hex
 hex_read n h = hex-to 16 n [] h
 
 pub hex_word : (n : ℕ) → word (hex_text n) ≡ true
 hex_word n = some_word (hex_text n) (hex-all n) (let z = hex_sixteen n in omega arith)
 
-pub hex_back : (n : ℕ) → n < 18446744073709551616 → hex_of (hex_text n) ≡ Is n
+pub hex_back : (n : ℕ) → n < 18446744073709551616 → hex_of (hex_text n) ≡ Ok n
 unfolding hex_of
 hex_back n h = rw (eq-eqb (length (hex_text n)) 16 (hex_sixteen n)) (hex_read n h)
 
@@ -168,7 +168,7 @@ behind_to (suc k) n i w h =
     rw (e, z) (behind_to k (n / 10) i (hex_letter (n % 10) ∷ w) (omega arith) ∙ behind_in n (n / 10) (i + k) w refl (omega arith))
 
 -- the point, if there is one, and what stands behind it
-point_to : (k n : ℕ) → k ≤ 12 → before_point (behind_text k n) (n / 10 ^ k) ≡ Is (hundredth n k)
+point_to : (k n : ℕ) → k ≤ 12 → before_point (behind_text k n) (n / 10 ^ k) ≡ Ok (hundredth n k)
 unfolding behind_text before_point behind_point
 point_to zero n h = rw (div-one n)
 point_to (suc k) n h = behind_to (suc k) n 0 [] (omega arith) ∙ let z : 0 + suc k ≡ suc k = omega arith in rw z
@@ -186,7 +186,7 @@ pub percent_word : (n k : ℕ) → word (percent_text n k) ≡ true
 unfolding percent_text
 percent_word n k = some_word (percent_text n k) (plain_append (decimal_text (n / 10 ^ k)) (behind_text k n) (decimal_plain (n / 10 ^ k)) (behind_plain k n)) (percent_long n k)
 
-pub percent_back : {bits n k : ℕ} → Reads bits n k → percent_of (percent_text n k) ≡ Is bits
+pub percent_back : {bits n k : ℕ} → Reads bits n k → percent_of (percent_text n k) ≡ Ok bits
 unfolding percent_of percent_text decimal_text
 percent_back {bits} {n} {k} r =
     let m = n / 10 ^ k in
@@ -195,4 +195,4 @@ percent_back {bits} {n} {k} r =
     let f : get_or w 0 0 ≡ 46 → ⊥ = λ z. omega (arith, first_digit 19 m (behind_text k n)) in
     let s : m < 1000 = before_small n k (10 ^ k) refl r.small in
     rw (ne_eqb (length w) 0 l, ne_eqb (get_or w 0 0) 46 f)
-    (up_to before_point 999 point_in 19 m (behind_text k n) (omega arith) (omega arith) ∙ point_to k n r.few ∙ ap Is r.same)
+    (up_to before_point 999 point_in 19 m (behind_text k n) (omega arith) (omega arith) ∙ point_to k n r.few ∙ ap Ok r.same)

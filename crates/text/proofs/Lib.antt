@@ -1,4 +1,3 @@
-pub mod Appended
 pub mod Decimal
 pub mod ReadBack
 pub mod Written

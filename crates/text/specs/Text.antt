@@ -1,7 +1,5 @@
--- Document 01, Records: "Figures are decimal". A number as text, the line of a refusal, and a piece of text appended to what a buffer
--- holds.
-use Rattle.std.specs.Prelude.{◌≡◌, cond, List, [], ◌∷◌, ◌++◌, ℕ, zero, suc, ◌+◌, ◌-◌, ◌/◌, ◌%◌, ltb, length}
-use Rattle.lists.specs.Lists.{put}
+-- Document 01, Records: "Figures are decimal". A number as text, and the line of a refusal.
+use Rattle.std.specs.Prelude.{cond, List, [], ◌∷◌, ◌++◌, ℕ, zero, suc, ◌+◌, ◌-◌, ◌/◌, ◌%◌, ltb}
 
 -- the digits of n, the most significant first, where there are at most 1 + more of them
 unfoldable pub decimal_up_to : ℕ → ℕ → List ℕ
@@ -23,8 +21,3 @@ refused_word = 114 ∷ 101 ∷ 102 ∷ 117 ∷ 115 ∷ 101 ∷ 100 ∷ 32 ∷ []
 -- `refused N`, of document 01's program and document 02's
 unfoldable pub refused_text : ℕ → List ℕ
 refused_text n = refused_word ++ decimal_text n ++ (10 ∷ [])
-
--- from `at` on a buffer gained the piece xs, which ends before `end`; elsewhere it is as before
-pub record Appended (before : List ℕ) (at : ℕ) (after : List ℕ) (end : ℕ) (xs : List ℕ) : Type 0 where
-  pub bytes : after ≡ put before at xs
-  pub ends : end ≡ at + length xs

@@ -14,18 +14,18 @@ pub fn text_of(sheet: &[u8], out: &mut [u8], told: &mut [u64]) -> u32
     ensures { lent_by result out.new told.new ≡ text_told sheet.now out.old told.old }
 {
     if told.len() < 1 {
-        return Refusal::Short.into();
+        return u32::from(Refusal::Short);
     }
     match typed_text::text_of(sheet, out) {
         Ok(n) => {
             typed_call::tell_one(told, n);
             0
         }
-        Err(TextError::Sheet(refusal)) => refusal.into(),
+        Err(TextError::Sheet(refusal)) => u32::from(refusal),
         Err(TextError::Row { index, refusal }) => {
             typed_call::tell_one(told, index);
-            refusal.into()
+            u32::from(refusal)
         }
-        Err(TextError::Short) => Refusal::Short.into(),
+        Err(TextError::Short) => u32::from(Refusal::Short),
     }
 }

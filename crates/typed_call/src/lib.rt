@@ -4,7 +4,7 @@
 ghost use Rattle.std.specs.Prelude.{◌≡◌, ◌∷◌, ◌≤◌, length, drop};
 ghost use Rattle.typed_call.specs.Told.{lent_by, sheet_told};
 
-use typed_sheet::Typed;
+use typed_sheet::TypedError;
 
 // A number in front of those that stood there.
 pub fn tell_one(told: &mut [u64], a: usize)
@@ -33,19 +33,14 @@ pub fn sheet_of(text: &[u8], out: &mut [u8], told: &mut [u64]) -> u32
         return 15;
     }
     match typed_sheet::sheet_of(text, out) {
-        Typed::Sheet(n) => {
+        Ok(n) => {
             tell_one(told, n);
             0
         }
-        Typed::Fault {
-            line,
-            number,
-            start,
-            length,
-        } => {
-            tell_three(told, line, start, length);
-            number
+        Err(TypedError::Faulty(f)) => {
+            tell_three(told, f.line, f.word.at, f.word.size);
+            u32::from(f.fault)
         }
-        Typed::Short => 15,
+        Err(TypedError::Short) => 15,
     }
 }

@@ -10,7 +10,7 @@ ghost use Rattle.typed_answer.specs.Answers.{sheet_answer, table_answer};
 ghost use Rattle.typed_answer.specs.Answers.Answer.{made};
 
 use std::io::{Read, Stderr, Stdin, Stdout, Write};
-use typed_answer::Made;
+use typed_answer::Told;
 
 // The longest text that is read.
 const MOST_TEXT: usize = 262144;
@@ -39,13 +39,13 @@ fn make_sheet<O: Write, E: Write>(text: &[u8], output: &mut O, errors: &mut E) -
     let mut sheet = [0u8; typed_answer::SHEET_ROOM];
     let mut message = [0u8; fault_text::ROOM];
     match typed_answer::sheet_or_fault(text, &mut sheet, &mut message) {
-        Made::Bytes(end) => streams::write_text(
+        Ok(end) => streams::write_text(
             output,
             errors,
             &sheet[..end],
             b"type_sheet: cannot write the sheet\n",
         ),
-        Made::Fault(end) => {
+        Err(Told(end)) => {
             streams::tell(errors, &message[..end]);
             false
         }
@@ -62,13 +62,13 @@ fn print_table<O: Write, E: Write>(text: &[u8], output: &mut O, errors: &mut E) 
     let mut table = [0u8; table::ROOM];
     let mut message = [0u8; fault_text::ROOM];
     match typed_answer::table_or_fault(text, &mut table, &mut message) {
-        Made::Bytes(end) => streams::write_text(
+        Ok(end) => streams::write_text(
             output,
             errors,
             &table[..end],
             b"typed: cannot write the table\n",
         ),
-        Made::Fault(end) => {
+        Err(Told(end)) => {
             streams::tell(errors, &message[..end]);
             false
         }

@@ -1,11 +1,12 @@
-// The record of a line of a typed sheet, put into a lent buffer: each call is told where its bytes start and answers where they end.
+// The record of a line of a typed sheet.
 #![tactic(auto)]
 
 ghost use Rattle.std.specs.Prelude.{◌≡◌, ◌+◌, ◌*◌, ◌%◌, ◌≤◌, ◌<◌, length};
 ghost use Rattle.little_endian.specs.Bytes.{bytes4};
-ghost use Rattle.text.specs.Text.{Appended};
+ghost use Rattle.text.specs.Written.{HasRoom, Gained};
 ghost use Rattle.typed_records.specs.Records.{value, flag, value_bytes, presence, named_bytes, given_bytes, tail_bytes, play_bytes, record_bytes, record_size};
 
+use text::Text;
 use typed_line::{Kind, Line};
 
 fn low(n: u64) -> u8
@@ -15,13 +16,14 @@ fn low(n: u64) -> u8
 }
 
 // The four low bytes of a number.
-pub fn put_number(out: &mut [u8], at: usize, n: u64) -> usize
-    requires { at + 4 ≤ length out.old }
-    ensures appended { Appended out.old at out.new result (bytes4 n) }
-    ensures value { result ≡ at + 4 }
+pub fn put_number(out: &mut Text<'_>, n: u64)
+    requires { HasRoom out.old 4 }
+    ensures gained { Gained out.old out.new (bytes4 n) }
+    ensures value { out.new.len ≡ out.old.len + 4 }
 {
-    little_endian::put_u32(out, at, (n % 4294967296) as u32);
-    at + 4
+    let mut bytes = [0u8; 4];
+    little_endian::put_u32(&mut bytes, 0, (n % 4294967296) as u32);
+    out.put_bytes(&bytes);
 }
 
 // A field's value, 0 where it is not typed.
@@ -33,17 +35,15 @@ fn value_of(l: Line, f: usize) -> u64
 }
 
 // The first n values of a line.
-fn put_values(out: &mut [u8], at: usize, l: Line, n: usize) -> usize
-    requires n_in_bounds { at + 4 * n ≤ length out.old }
+fn put_values(out: &mut Text<'_>, l: Line, n: usize)
+    requires room { HasRoom out.old (4 * n) }
     requires n_bound { n ≤ 13 }
-    ensures appended { Appended out.old at out.new result (value_bytes l n) }
-    ensures value { result ≡ at + 4 * n }
+    ensures gained { Gained out.old out.new (value_bytes l n) }
+    ensures value { out.new.len ≡ out.old.len + 4 * n }
 {
-    let mut end = at;
     for f in 0..n {
-        end = put_number(out, end, value_of(l, f));
+        put_number(out, value_of(l, f));
     }
-    end
 }
 
 // 1 where a field is typed, else 0.
@@ -68,63 +68,63 @@ fn presence_of(l: Line) -> u8
 }
 
 // The first four bytes of a query.
-fn put_named(out: &mut [u8], at: usize, l: Line) -> usize
-    requires { at + 4 ≤ length out.old }
-    ensures appended { Appended out.old at out.new result (named_bytes l) }
-    ensures value { result ≡ at + 4 }
+fn put_named(out: &mut Text<'_>, l: Line)
+    requires { HasRoom out.old 4 }
+    ensures gained { Gained out.old out.new (named_bytes l) }
+    ensures value { out.new.len ≡ out.old.len + 4 }
 {
     let chart = value_of(l, 11);
-    let high = text::put_byte(out, at, low(chart));
-    let method = text::put_byte(out, high, low(chart / 256));
-    let priority = text::put_byte(out, method, low(value_of(l, 12)));
-    text::put_byte(out, priority, low(value_of(l, 9)))
+    out.put_byte(low(chart));
+    out.put_byte(low(chart / 256));
+    out.put_byte(low(value_of(l, 12)));
+    out.put_byte(low(value_of(l, 9)));
 }
 
 // The next four.
-fn put_given(out: &mut [u8], at: usize, l: Line) -> usize
-    requires { at + 4 ≤ length out.old }
-    ensures appended { Appended out.old at out.new result (given_bytes l) }
-    ensures value { result ≡ at + 4 }
+fn put_given(out: &mut Text<'_>, l: Line)
+    requires { HasRoom out.old 4 }
+    ensures gained { Gained out.old out.new (given_bytes l) }
+    ensures value { out.new.len ≡ out.old.len + 4 }
 {
-    let bits = text::put_byte(out, at, low(value_of(l, 10)));
-    let holds = text::put_byte(out, bits, presence_of(l));
-    let zero = text::put_byte(out, holds, flag_of(l, 8));
-    text::put_byte(out, zero, 0)
+    out.put_byte(low(value_of(l, 10)));
+    out.put_byte(presence_of(l));
+    out.put_byte(flag_of(l, 8));
+    out.put_byte(0);
 }
 
 // The last sixteen.
-fn put_tail(out: &mut [u8], at: usize, l: Line) -> usize
-    requires { at + 16 ≤ length out.old }
-    ensures appended { Appended out.old at out.new result (tail_bytes l) }
-    ensures value { result ≡ at + 16 }
+fn put_tail(out: &mut Text<'_>, l: Line)
+    requires { HasRoom out.old 16 }
+    ensures gained { Gained out.old out.new (tail_bytes l) }
+    ensures value { out.new.len ≡ out.old.len + 16 }
 {
-    let passed = put_number(out, at, value_of(l, 7));
+    put_number(out, value_of(l, 7));
     let bits = value_of(l, 6);
-    let low_bits = put_number(out, passed, bits);
-    let high_bits = put_number(out, low_bits, bits / 4294967296);
-    put_number(out, high_bits, value_of(l, 8))
+    put_number(out, bits);
+    put_number(out, bits / 4294967296);
+    put_number(out, value_of(l, 8));
 }
 
-fn put_play(out: &mut [u8], at: usize, l: Line) -> usize
-    requires { at + 48 ≤ length out.old }
-    ensures appended { Appended out.old at out.new result (play_bytes l) }
-    ensures value { result ≡ at + 48 }
+fn put_play(out: &mut Text<'_>, l: Line)
+    requires { HasRoom out.old 48 }
+    ensures gained { Gained out.old out.new (play_bytes l) }
+    ensures value { out.new.len ≡ out.old.len + 48 }
 {
-    let given = put_named(out, at, l);
-    let counts = put_given(out, given, l);
-    let tail = put_values(out, counts, l, 6);
-    put_tail(out, tail, l)
+    put_named(out, l);
+    put_given(out, l);
+    put_values(out, l, 6);
+    put_tail(out, l);
 }
 
 // The record of a line that has a kind.
-pub fn put_record(out: &mut [u8], at: usize, l: Line) -> usize
-    requires { at + record_size l.kind ≤ length out.old }
-    ensures appended { Appended out.old at out.new result (record_bytes l) }
-    ensures value { result ≡ at + record_size l.kind }
+pub fn put_record(out: &mut Text<'_>, l: Line)
+    requires { HasRoom out.old (record_size l.kind) }
+    ensures gained { Gained out.old out.new (record_bytes l) }
+    ensures value { out.new.len ≡ out.old.len + record_size l.kind }
 {
     match l.kind {
-        Some(Kind::Chart) => put_values(out, at, l, 2),
-        Some(Kind::Weights) => put_values(out, at, l, 5),
-        Some(Kind::Play) | None => put_play(out, at, l),
+        Some(Kind::Chart) => put_values(out, l, 2),
+        Some(Kind::Weights) => put_values(out, l, 5),
+        Some(Kind::Play) | None => put_play(out, l),
     }
 }

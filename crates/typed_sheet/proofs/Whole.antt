@@ -7,9 +7,7 @@ use native.Mathlib.Omega.{arith}
 use lib.ListN.{length, drop, length-append}
 use borrow.Author.Tests.{lt-ltb, le-ltb}
 use Rattle.std.specs.Prelude.{Ok, Err}
-use Rattle.lists.specs.Lists.{put}
 use Rattle.little_endian.specs.Bytes.{bytes4}
-use Rattle.text.specs.Text.{Appended}
 use Rattle.words.specs.Lines.{lines}
 use Rattle.typed_line.specs.declared.Kind.TheVariants.{Chart, Weights, Play}
 use Rattle.typed_sheet.specs.declared.LineFault.{LineFault}
@@ -37,14 +35,11 @@ module _ (text out : List ℕ) (t : Tally) (e : tally_of text ≡ Ok t) where
   too_short k = rw (e, lt-ltb (length out) (sheet_size t) k) (record { answers = refl; holds = refl })
 
   -- the sheet's bytes at the front of the output
-  pub in_full : sheet_size t ≤ length out → (size : ℕ) (out' : List ℕ) → length (sheet_bytes text t.charts t.weights t.plays) ≡ sheet_size t
-      → Appended out 0 out' size (sheet_bytes text t.charts t.weights t.plays) → Says (typed_sheet text out) (Ok size) out'
-  unfolding typed_sheet outcome_of put
-  in_full k size out' l a =
-      let z : size ≡ sheet_size t = a.ends ∙ omega arith in
-      let n : 0 + length (sheet_bytes text t.charts t.weights t.plays) ≡ sheet_size t = omega arith in
-      rw (e, le-ltb (length out) (sheet_size t) k)
-      (record { answers = ap Ok z; holds = a.bytes ∙ ap (λ (m : ℕ). sheet_bytes text t.charts t.weights t.plays ++ drop m out) n })
+  pub in_full : sheet_size t ≤ length out → (size : ℕ) (out' : List ℕ) → size ≡ sheet_size t → out' ≡ sheet_bytes text t.charts t.weights t.plays ++ drop size out
+      → Says (typed_sheet text out) (Ok size) out'
+  unfolding typed_sheet outcome_of
+  in_full k size out' z a =
+      rw (e, le-ltb (length out) (sheet_size t) k) (record { answers = ap Ok z; holds = a ∙ ap (λ (m : ℕ). sheet_bytes text t.charts t.weights t.plays ++ drop m out) z })
 
 pub sheet-length : (text : List ℕ) (t : Tally) → Fine text t → length (sheet_bytes text t.charts t.weights t.plays) ≡ sheet_size t
 sheet-length text t f = length_sections text t.charts t.weights t.plays ∙ omega (arith, f.charts, f.weights, f.plays)

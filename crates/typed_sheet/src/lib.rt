@@ -2,11 +2,12 @@
 #![tactic(auto)]
 
 ghost use Rattle.std.specs.Prelude.{◌≡◌, ◌+◌, ◌*◌, ◌≤◌, length, Ok, IfOk};
-ghost use Rattle.text.specs.Text.{Appended};
+ghost use Rattle.text.specs.Written.{HasRoom, Gained};
 ghost use Rattle.words.specs.Lines.{lines};
 ghost use Rattle.typed_sheet.specs.Typed.{counts, tallies, tally_of, is_kind, records, sheet_bytes, typed_sheet, Says};
 ghost use Rattle.typed_sheet.specs.declared.TypedError.TheVariants.{Faulty};
 
+use text::Text;
 use typed_line::{Kind, Line, Span};
 use words::{Fault, Lines};
 
@@ -123,32 +124,30 @@ fn is_kind(l: Line, kind: Kind) -> bool
     l.kind == Some(kind)
 }
 
-// The records of one kind, one after the other from a place on; it answers where they end.
-fn write_kind(text: &[u8], kind: Kind, out: &mut [u8], place: usize) -> usize
-    requires { place + length (records kind (lines text.now)) ≤ length out.old }
-    ensures { Appended out.old place out.new result (records kind (lines text.now)) }
+// The records of one kind, one after the other.
+fn write_kind(text: &[u8], kind: Kind, out: &mut Text<'_>)
+    requires { HasRoom out.old (length (records kind (lines text.now))) }
+    ensures { Gained out.old out.new (records kind (lines text.now)) }
 {
-    let mut to = place;
     for (at, line) in Lines::new(text) {
         let l = typed_line::read_line(line, at);
         if is_kind(l, kind) {
-            to = typed_records::put_record(out, to, l);
+            typed_records::put_record(out, l);
         }
     }
-    to
 }
 
-// The three sections, each after its count, at the front of the output.
-fn write_sheet(text: &[u8], out: &mut [u8], t: Tally) -> usize
-    requires { length (sheet_bytes text.now t.charts t.weights t.plays) ≤ length out.old }
-    ensures { Appended out.old 0 out.new result (sheet_bytes text.now t.charts t.weights t.plays) }
+// The three sections, each after its count.
+fn write_sheet(text: &[u8], out: &mut Text<'_>, t: Tally)
+    requires { HasRoom out.old (length (sheet_bytes text.now t.charts t.weights t.plays)) }
+    ensures { Gained out.old out.new (sheet_bytes text.now t.charts t.weights t.plays) }
 {
-    let first = typed_records::put_number(out, 0, t.charts as u64);
-    let second = write_kind(text, Kind::Chart, out, first);
-    let third = typed_records::put_number(out, second, t.weights as u64);
-    let fourth = write_kind(text, Kind::Weights, out, third);
-    let fifth = typed_records::put_number(out, fourth, t.plays as u64);
-    write_kind(text, Kind::Play, out, fifth)
+    typed_records::put_number(out, t.charts as u64);
+    write_kind(text, Kind::Chart, out);
+    typed_records::put_number(out, t.weights as u64);
+    write_kind(text, Kind::Weights, out);
+    typed_records::put_number(out, t.plays as u64);
+    write_kind(text, Kind::Play, out);
 }
 
 // The sheet of a text, at the front of the output; it answers the sheet's length.
@@ -160,5 +159,7 @@ pub fn sheet_of(text: &[u8], out: &mut [u8]) -> Result<usize, TypedError>
     if out.len() < size {
         return Err(TypedError::Short);
     }
-    Ok(write_sheet(text, out, t))
+    let mut sheet = Text::new(out);
+    write_sheet(text, &mut sheet, t);
+    Ok(sheet.len())
 }

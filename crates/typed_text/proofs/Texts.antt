@@ -14,8 +14,7 @@ use Rattle.std.specs.Prelude.{Result, Ok, Err, IsErrAnd}
 use Rattle.refusals.specs.declared.Refusal.{Refusal}
 use Rattle.refusals.specs.Refusal.{number_of}
 use Rattle.refusals.proofs.Numbers.{never_zero}
-use Rattle.lists.specs.Lists.{put, joined}
-use Rattle.text.specs.Text.{Appended}
+use Rattle.lists.specs.Lists.{joined}
 use Rattle.inspect.specs.declared.Chart.{Chart}
 use Rattle.score_state.specs.declared.Weights.{Weights}
 use Rattle.records.specs.Records.{chart_at, weights_at, row_at}
@@ -110,10 +109,7 @@ module _ (s out : List ℕ) where
       unfolding sheet_text
       too_short k = rw (z, not_below, lt-ltb (length out) (length (text_of s)) k) (record { answers = refl; holds = refl })
 
-      pub written : length (text_of s) ≤ length out → (size : ℕ) (out' : List ℕ) → Appended out 0 out' size (text_of s) → Says (sheet_text s out) (Ok size) out'
-      unfolding sheet_text put
-      written k size out' a =
-          let e : size ≡ length (text_of s) = a.ends ∙ omega arith in
-          let d : 0 + length (text_of s) ≡ length (text_of s) = omega arith in
-          rw (z, not_below, le-ltb (length out) (length (text_of s)) k)
-          (record { answers = ap text e; holds = a.bytes ∙ ap (λ (m : ℕ). text_of s ++ drop m out) d })
+      pub written : length (text_of s) ≤ length out → (size : ℕ) (out' : List ℕ) → length (text_of s) ≡ size → out' ≡ text_of s ++ drop size out → Says (sheet_text s out) (Ok size) out'
+      unfolding sheet_text
+      written k size out' e a =
+          rw (z, not_below, le-ltb (length out) (length (text_of s)) k) (record { answers = ap text (sym e); holds = a ∙ ap (λ (m : ℕ). text_of s ++ drop m out) (sym e) })

@@ -38,7 +38,8 @@ pub struct Spread {
     pub rest: Hits,
 }
 
-// A setting of the middles: the hits left, the points so far with those of the given counts, and the middles' counts.
+// A setting of the middles: the hits left, the points so far with those of the given counts, and the middles' counts. It is handed over
+// beside the plan and not as one value with it: the plan stands through the whole walk, and each turn makes a new setting.
 #[derive(Clone, Copy)]
 pub struct Setting {
     pub left: Hits,

@@ -17,6 +17,6 @@ returns c =
     let g100 : List (Option ℕ) = given (has x.presence 8) x.counts.n100 ∷ g50 in
     let g200 : List (Option ℕ) = given (has x.presence 4) x.counts.n200 ∷ g100 in
     let g300 : List (Option ℕ) = given (has x.presence 2) x.counts.n300 ∷ g200 in (
-      rw (← c.next_of.ensures g300, ← c.next_of-2.ensures g200, ← c.next_of-3.ensures g100, ← c.next_of-4.ensures g50, ← c.next_of-5.ensures []) (ap counts_of c.of.ensures),
+      rw (← c.given.ensures, ← c.next_of.ensures g300, ← c.given-2.ensures, ← c.next_of-2.ensures g200, ← c.given-3.ensures, ← c.next_of-3.ensures g100, ← c.given-4.ensures, ← c.next_of-4.ensures g50, ← c.given-5.ensures, ← c.next_of-5.ensures []) (ap counts_of c.of.ensures),
       ap (λ (r : HitResults). r.misses) c.of.ensures,
     )

@@ -1,21 +1,14 @@
 -- `fault_text::put_sentence` meets its contract. Assumes nothing.
-use native.Mathlib.Omega.{arith}
-use borrow.Author.Tests.{eq-eqb, ne_eqb}
-use Rattle.text.proofs.Appended.{followed}
+use Rattle.text.proofs.Written.{followed}
 use Rattle.fault_text.specs.FaultText.{value_missing, sentence_of}
 use Rattle.fault_text.proofs.put_sentence.Goals as goal
 
-pub returns-then-number-eq5 : goal.returns-then-number-eq5
-unfolding sentence_of value_missing
-returns-then-number-eq5 c =
-    let a = c.put_bytes-start.ensures in
-    let b = c.put_word.ensures in
-    let e = a.ends in
-    record { appended = rw (eq-eqb c.args.number 5 c.if-number-eq5.true) (followed a b.appended (omega arith)); upper_bound = omega arith }
-
-pub returns : goal.returns
+pub returns-in-Some-clause-gained : goal.returns-in-Some-clause-gained
 unfolding sentence_of
-returns c =
-    let a = c.put_word-end.ensures in
-    let b = c.put_phrase.ensures in
-    record { appended = rw (ne_eqb c.args.number 5 c.if-number-eq5.false) (followed a.appended b.appended (omega arith)); upper_bound = omega arith }
+returns-in-Some-clause-gained c =
+    let p = c.in-Some.ensures.some in
+    rw (p.0, ← p.1) (followed c.put_word.ensures.gained c.put_bytes.ensures)
+
+pub returns-in-None-clause-gained : goal.returns-in-None-clause-gained
+unfolding sentence_of value_missing
+returns-in-None-clause-gained c = rw c.in-None.ensures.none (followed c.put_bytes-in-None.ensures c.put_word-in-None.ensures.gained)

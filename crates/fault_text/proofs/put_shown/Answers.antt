@@ -1,36 +1,27 @@
 -- `fault_text::put_shown` meets its contract. Assumes nothing.
-use mathlib.Core.Path.{refl, sym, ap, ◌∙◌}
+use mathlib.Core.Path.{sym, ap, ◌∙◌}
 use mathlib.Core.List.{[], ◌∷◌, ◌++◌}
 use Prim.Native.Nat.{ℕ}
 use native.Mathlib.Omega.{arith}
 use lib.ListN.{take}
-use Rattle.text.proofs.Appended.{nothing, followed, restated}
+use Rattle.text.proofs.Written.{nothing, followed, restated}
 use Rattle.fault_text.specs.FaultText.{shown}
 use Rattle.fault_text.proofs.Shown.{shown_next, shown-all}
 use Rattle.fault_text.proofs.put_shown.Goals as goal
 
-pub loop-i-init : goal.loop-i-init
+pub loop-b-init : goal.loop-b-init
 unfolding shown
-loop-i-init c =
-    let x = c.args in
-    (omega arith, refl, omega arith, nothing x.text.now x.at)
+loop-b-init c = (omega arith, nothing c.args.text.now (omega arith))
 
-pub loop-i-preserved : goal.loop-i-preserved
-loop-i-preserved c =
-    let x = c.args in
-    let l = c.loop-i in
-    let p = c.put_byte-end.ensures in
-    let b = c.shown_byte.ensures in
-    let e = p.ends in
-    let q = followed l.invariant.3 p (omega arith) in (
-      omega arith,
-      omega arith,
-      omega arith,
-      restated q (ap (λ (r : ℕ). shown (take l.i x.word.now) ++ (r ∷ [])) b ∙ sym (shown_next x.word.now l.i (omega arith))),
-    )
+pub loop-b-preserved : goal.loop-b-preserved
+loop-b-preserved c =
+    let w = c.args.word.now in
+    let l = c.loop-b in
+    let i = l.b-index in
+    let e = ap (λ (r : ℕ). shown (take i w) ++ (r ∷ [])) c.shown_byte.ensures ∙ sym (shown_next w i (omega arith)) in
+    (omega arith, restated (followed l.invariant.1 c.put_byte.ensures) e)
 
 pub returns : goal.returns
 returns c =
-    let x = c.args in
-    let l = c.loop-i in
-    record { appended = restated l.invariant.3 (shown-all x.word.now l.i (omega arith)); value = omega arith }
+    let l = c.loop-b in
+    record { gained = restated l.invariant.1 (shown-all c.args.word.now l.b-index (omega arith)); value = omega arith }

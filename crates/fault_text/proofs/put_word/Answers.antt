@@ -3,7 +3,7 @@ use Prim.Native.Nat.{◌≤◌}
 use native.Mathlib.Omega.{arith}
 use lib.ListN.{length, take, length-take}
 use borrow.Author.Tests.{lt-ltb, le-ltb}
-use Rattle.text.proofs.Appended.{followed}
+use Rattle.text.proofs.Written.{followed}
 use Rattle.fault_text.specs.FaultText.{shown_word}
 use Rattle.fault_text.proofs.put_word.Goals as goal
 
@@ -11,17 +11,11 @@ pub returns-then-word-gt40 : goal.returns-then-word-gt40
 unfolding shown_word
 returns-then-word-gt40 c =
     let w = c.args.word.now in
-    let a = c.put_shown-end.ensures in
-    let b = c.put_bytes.ensures in
     let k : length (take 40 w) ≤ 40 = simp length-take (omega arith) in
-    let e = a.value in
-    let f = b.ends in
-    record { appended = rw (lt-ltb 40 (length w) (omega arith)) (followed a.appended b (omega arith)); upper_bound = omega arith }
+    record { gained = rw (lt-ltb 40 (length w) (omega arith)) (followed c.put_shown.ensures.gained c.put_bytes.ensures); upper_bound = omega arith }
 
-pub returns : goal.returns
+pub returns-else-word-gt40 : goal.returns-else-word-gt40
 unfolding shown_word
-returns c =
+returns-else-word-gt40 c =
     let w = c.args.word.now in
-    let a = c.put_shown.ensures in
-    let e = a.value in
-    record { appended = rw (le-ltb 40 (length w) (omega arith)) a.appended; upper_bound = omega arith }
+    record { gained = rw (le-ltb 40 (length w) (omega arith)) c.put_shown-else-word-gt40.ensures.gained; upper_bound = omega arith }

@@ -1,8 +1,9 @@
 -- `fault_text::tell_fault` meets its contract. Assumes nothing.
-use Rattle.text.proofs.Appended.{counted, front, beyond}
+use Rattle.text.proofs.Written.{front, beyond}
 use Rattle.fault_text.proofs.tell_fault.Goals as goal
 
-pub returns : goal.returns
-returns c =
-    let p = c.put_fault.ensures in
-    record { counted = counted p; told = front p; beyond = beyond p }
+pub returns-clause-told : goal.returns-clause-told
+returns-clause-told c = let text = c.new-text.ensures in front c.put_fault.ensures text.empty text.bytes c.len.ensures
+
+pub returns-clause-beyond : goal.returns-clause-beyond
+returns-clause-beyond c = let text = c.new-text.ensures in beyond c.put_fault.ensures text.empty text.bytes c.len.ensures

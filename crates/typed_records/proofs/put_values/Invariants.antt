@@ -1,10 +1,9 @@
 use mathlib.Core.Path.{◌≡◌}
-use Prim.Native.Nat.{◌+◌, ◌-◌, ◌*◌, ◌≤◌}
-use lib.ListN.{length}
+use Prim.Native.Nat.{◌+◌, ◌*◌}
 use Rattle.lists.specs.Lists.{joined}
-use Rattle.text.specs.Text.{Appended}
+use Rattle.text.specs.Written.{Gained}
 use Rattle.typed_records.specs.Records.{value_at}
 use Rattle.typed_records.proofs.put_values.Given as goal
 
 abbrev pub invariant-loop-f : goal.invariant-loop-f
-invariant-loop-f l = (l.f ≤ l.n) × (length l.out ≡ length l.initial.out) × (l.end ≡ l.at + 4 * l.f) × Appended l.initial.out l.at l.out l.end (joined (value_at l.l) l.f)
+invariant-loop-f l = (l.out.len ≡ l.initial.out.len + 4 * l.f) × Gained l.initial.out l.out (joined (value_at l.l) l.f)

@@ -4,7 +4,7 @@ use native.Mathlib.Omega.{arith}
 use borrow.Author.Rules.{rules}
 use lib.ListN.{length}
 use Rattle.std.specs.Prelude.{Ok}
-use Rattle.text.proofs.Written.{restated, at_start, counted}
+use Rattle.text.proofs.Written.{restated, size, whole, counted}
 use Rattle.typed_text.specs.SheetText.{text_of, sheet_text, Says}
 use Rattle.typed_text.specs.declared.TextError.TheVariants as Error
 use Rattle.typed_text.proofs.Inside.{placed}
@@ -48,6 +48,6 @@ returns c =
     let text = c.new-text.ensures in
     let w = restated c.write_lines.ensures (all_lines x.sheet.now p h) in
     let all : Says (sheet_text x.sheet.now x.out.now) (Ok c.len.result) c.write_lines.new.text.bytes.now =
-    written x.sheet.now x.out.now h.accepted c.in_ok-check_rows.ensures k c.len.result c.write_lines.new.text.bytes.now (at_start w text.empty text.bytes c.len.ensures) in
+    written x.sheet.now x.out.now h.accepted c.in_ok-check_rows.ensures k c.len.result c.write_lines.new.text.bytes.now (size w text.empty text.bytes c.len.ensures) (whole w text.empty text.bytes c.len.ensures) in
     let within = counted w text.empty text.bytes c.len.ensures in
     record { outcome = search rules; counted = search rules }

@@ -1,27 +1,16 @@
 -- `closest::Best::attempt` is the body of the inner loop. Assumes nothing.
-use Prim.Native.Nat.{◌+◌, ◌-◌, ◌≤◌}
+use Prim.Native.Nat.{◌+◌, ◌≤◌}
 use mathlib.Core.Path.{◌≡◌, sym, ◌∙◌}
 use native.Mathlib.Omega.{arith}
 use borrow.Author.Tests.{ltb-false}
-use lib.Dec.{ltb}
 use Rattle.units.proofs.Order.{lt_of}
 use Rattle.closest_laws.specs.Loops.{first_two}
-use Rattle.closest_laws.specs.Closest.{space}
 use Rattle.closest_laws.proofs.LastThree.{sized}
 use Rattle.closest_laws.proofs.Bits.{lacks-one}
-use Rattle.closest_laws.proofs.Search.{last_few, inner_skip, inner-take}
+use Rattle.closest_laws.proofs.Search.{last_few, inner-take}
 use Rattle.closest_points.specs.Code.{last_view}
 use Rattle.closest.specs.Code.{play_view, best_view}
 use Rattle.closest.proofs.Best.attempt.Goals as goal
-use Rattle.closest.proofs.Best.attempt.Goals.{After-lt}
-
-test : (c : After-lt) → ltb (c.args.play.remain.0 - (c.args.new320.0 + c.args.new300.0)) (space (play_view c.args.play)) ≡ c.lt.result
-test c = rw (← c.min_space_needed.ensures, ← c.add.ensures, ← c.sub-remain_after_300.ensures) (sym (lt_of _ _ _ c.lt.ensures))
-
-pub returns-then-lt : goal.returns-then-lt
-returns-then-lt c =
-    let x = c.args in
-    inner_skip first_two (play_view x.play) x.new320.0 x.new300.0 (best_view x.self) (test c.before ∙ c.if-lt.true)
 
 pub accuracy_distance-requires : goal.accuracy_distance-requires
 accuracy_distance-requires c =

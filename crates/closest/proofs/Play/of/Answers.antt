@@ -4,8 +4,7 @@ use native.Mathlib.Omega.{arith}
 use Rattle.inspect.specs.Presence.{has, unwrap_or_zero}
 use Rattle.inspect.specs.Inspect.{inspect_of}
 use Rattle.inspect.proofs.Checked.{remain_and_misses}
-use Rattle.closest_laws.specs.Closest.{play_of}
-use Rattle.closest_laws.proofs.Bits.{zeroed, or_zeroed, zeroed_le}
+use Rattle.closest_laws.proofs.Bits.{or_zeroed, zeroed_le}
 use Rattle.closest_laws.proofs.Fills.{perfect-heavy}
 use Rattle.closest.proofs.Play.of.Goals as goal
 
@@ -39,23 +38,3 @@ invariant_of-result c =
         zero50 = or_zeroed (has k 16) q.n50;
       };
     })
-
-pub returns : goal.returns
-unfolding unwrap_or_zero play_of
-returns c =
-    let q = c.args.q in
-    let k = q.presence in
-    rw (
-      c.unwrap_or_zero.ensures,
-      c.of-counts.ensures,
-      zeroed (has k 1) q.n320,
-      zeroed (has k 2) q.n300,
-      zeroed (has k 4) q.n200,
-      zeroed (has k 8) q.n100,
-      zeroed (has k 16) q.n50,
-      c.target_of.ensures.0,
-      c.total_hits.ensures.0,
-      c.perfect_weight-w320.ensures.0,
-      c.remain.ensures.0,
-      c.misses.ensures.0,
-    )

@@ -1,14 +1,8 @@
--- `closest_points::TwoVars::solve_two_vars`: equal weights are halved, and otherwise four splits are tried. Assumes nothing.
-use mathlib.Core.Path.{sym, ◌∙◌}
+-- `closest_points::TwoVars::solve_two_vars`: where the weights differ, four splits are tried. Assumes nothing.
+use mathlib.Core.Path.{◌∙◌}
 use Rattle.units.proofs.Order.{min_of}
-use Rattle.closest_laws.proofs.TwoMissing.{solved_alike}
 use Rattle.closest_laws.proofs.Fills.{solved_by_four}
 use Rattle.closest_points.proofs.TwoVars.solve_two_vars.Goals as goal
-
-pub returns-then-self : goal.returns-then-self
-returns-then-self c =
-    let s = c.args.self in
-    rw (c.sub.ensures, c.half-half.ensures) (sym (solved_alike s.w1 s.w2 s.target.0 s.remain_hits.0 s.provided_sum.0 c.if-self.true))
 
 pub returns : goal.returns
 returns c =

@@ -1,8 +1,7 @@
 -- `text::Text::put_byte` meets its contract. Assumes nothing.
 use mathlib.Core.Path.{refl}
 use mathlib.Core.List.{[], ◌∷◌}
-use Rattle.text.proofs.Appended.{stored}
-use Rattle.text.proofs.Written.{piece}
+use Rattle.text.proofs.Written.{stored, piece}
 use Rattle.text.proofs.Text.put_byte.Goals as goal
 
 pub returns : goal.returns

@@ -3,8 +3,7 @@ use mathlib.Core.Path.{refl, ◌∙◌}
 use native.Mathlib.Omega.{arith}
 use lib.ListN.{length}
 use Rattle.std.proofs.lemmas.Slice.{put_mid-paste}
-use Rattle.text.proofs.Appended.{copied}
-use Rattle.text.proofs.Written.{piece}
+use Rattle.text.proofs.Written.{copied, piece}
 use Rattle.text.proofs.Text.put_bytes.Goals as goal
 
 pub returns : goal.returns
