@@ -2,21 +2,19 @@
 -- index), or 5 (the output is too short, or told has no place, asked first)".
 use Rattle.std.specs.Prelude.{ℕ, cond, List, [], ◌∷◌, ◌++◌, ltb, length, drop}
 use Rattle.typed_call.specs.Told.{Lent, lent_by}
-use Rattle.typed_text.specs.SheetText.{Outcome, sheet_text}
-use Rattle.typed_text.specs.declared.SheetText.{SheetText}
-use Rattle.typed_text.specs.declared.SheetText.TheVariants.{Text, Refused, Row, Short}
+use Rattle.typed_text.specs.SheetText.{TextAnswer, text, refused, row, short, Outcome, sheet_text}
 
-abbrev pub status_of : SheetText → ℕ
-status_of (Text n) = 0
-status_of (Refused n) = n
-status_of (Row index n) = n
-status_of Short = 5
+abbrev pub status_of : TextAnswer → ℕ
+status_of (text n) = 0
+status_of (refused n) = n
+status_of (row index n) = n
+status_of short = 5
 
-abbrev pub numbers_of : SheetText → List ℕ
-numbers_of (Text n) = n ∷ []
-numbers_of (Refused n) = []
-numbers_of (Row index n) = index ∷ []
-numbers_of Short = []
+abbrev pub numbers_of : TextAnswer → List ℕ
+numbers_of (text n) = n ∷ []
+numbers_of (refused n) = []
+numbers_of (row index n) = index ∷ []
+numbers_of short = []
 
 -- an outcome's number in front of what stood there
 abbrev pub lent_of : Outcome → List ℕ → Lent

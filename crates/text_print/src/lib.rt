@@ -12,7 +12,7 @@ ghost use Rattle.text_print.specs.Stopped.{stopped_text};
 
 use std::io::{Read, Stderr, Stdin, Stdout, Write};
 use text::Text;
-use typed_text::SheetText;
+use typed_text::TextError;
 
 // No text is longer: 256 lines of charts, one of weights, 1,024 of queries.
 const ROOM: usize = 256 * 28 + 63 + 1024 * sheet_lines::ROOM;
@@ -37,13 +37,15 @@ fn print_text<O: Write, E: Write>(sheet: &[u8], output: &mut O, errors: &mut E) 
     let mut bytes = [0u8; 37];
     let mut line = Text::new(&mut bytes);
     match typed_text::text_of(sheet, &mut text) {
-        SheetText::Text(end) => {
+        Ok(end) => {
             let message = b"sheet_text: cannot write the text\n";
             return streams::write_text(output, errors, &text[..end], message);
         }
-        SheetText::Refused(number) => line.put_refused(number),
-        SheetText::Row { index, number } => put_stopped(&mut line, index, number),
-        SheetText::Short => line.put_bytes(b"sheet_text: the text is too long\n"),
+        Err(TextError::Sheet(refusal)) => line.put_refused(u32::from(refusal)),
+        Err(TextError::Row { index, refusal }) => {
+            put_stopped(&mut line, index, u32::from(refusal));
+        }
+        Err(TextError::Short) => line.put_bytes(b"sheet_text: the text is too long\n"),
     }
     let end = line.len();
     streams::tell(errors, &bytes[..end]);

@@ -10,7 +10,10 @@ use mathlib.Core.Bool.{Bool, true, false}
 use lib.Dec.{ltb}
 use lib.ListN.{length, drop, length-append}
 use borrow.Author.Tests.{lt-ltb, le-ltb, eq-eqb, ne_eqb, ltb-true, ltb-false}
-use Rattle.io.specs.Counts.{IsPrefixLen}
+use Rattle.std.specs.Prelude.{Result, Ok, Err, IsErrAnd}
+use Rattle.refusals.specs.declared.Refusal.{Refusal}
+use Rattle.refusals.specs.Refusal.{number_of}
+use Rattle.refusals.proofs.Numbers.{never_zero}
 use Rattle.lists.specs.Lists.{joined}
 use Rattle.inspect.specs.declared.Chart.{Chart}
 use Rattle.score_state.specs.declared.Weights.{Weights}
@@ -19,10 +22,9 @@ use Rattle.records.specs.declared.Row.{Row}
 use Rattle.sheets_laws.specs.Sheets.{chart_count, own_count, query_count, row_of}
 use Rattle.sheet_lines.specs.Lines.{chart_text, weights_text, play_text}
 use Rattle.typed_text.specs.declared.Places.{Places}
-use Rattle.typed_text.specs.declared.SheetText.{SheetText}
-use Rattle.typed_text.specs.declared.SheetText.TheVariants.{Text, Refused, Short}
-use Rattle.typed_text.specs.declared.SheetText.TheVariants as Answer
-use Rattle.typed_text.specs.SheetText.{stop_of, fault_at, first_from, first_stopped, line_at, line_count, text_of, sheet_text, Placed, Says, Counted}
+use Rattle.typed_text.specs.declared.TextError.{TextError}
+use Rattle.typed_text.specs.declared.TextError.TheVariants as Error
+use Rattle.typed_text.specs.SheetText.{stop_of, first_from, first_stopped, line_at, text_of, text, sheet_text, Placed, Says, Counted, RowsTold}
 use Rattle.typed_text.proofs.Inside.{charts_are, own_are, weights-at, rows-at, queries_are}
 
 -- ---- row by row
@@ -80,26 +82,34 @@ unfolding text_of
 all_lines s p h = rw (charts_are s p h, own_are s p h, queries_are s p h)
 
 -- ---- the outcomes
+-- an answer r of a call that leaves the output as it is
+abbrev pub Told : List ℕ → List ℕ → Result ℕ TextError → Type 0
+Told s out r = Says (sheet_text s out) r out × Counted r out
+
 module _ (s out : List ℕ) where
-  pub refused : (n : ℕ) → n ≡ stop_of s → 0 < n → Says (sheet_text s out) (Refused n) out
+  -- a refusal e that `?` hands on
+  pub handed : (e : TextError) → Says (sheet_text s out) (Err e) out → (r : Result ℕ TextError) → IsErrAnd r (λ x. x ≡ e) → Told s out r
+  handed e w (Ok n) h = absurd h
+  handed e w (Err x) h = (subst (λ (y : TextError). Says (sheet_text s out) (Err y) out) (sym h) w, tt)
+
+  pub refused : (f : Refusal) → number_of f ≡ stop_of s → Says (sheet_text s out) (Err (Error.Sheet f)) out
   unfolding sheet_text
-  refused n e h = rw (← e, lt-ltb 0 n h) (record { answers = refl; holds = refl })
+  refused f e = rw (← e, lt-ltb 0 (number_of f) (never_zero f)) (record { answers = refl; holds = refl })
 
   module _ (z : stop_of s ≡ 0) where
-    pub stopped : (i : ℕ) (n : ℕ) → i ≡ first_stopped s → i < query_count s → n ≡ fault_at s i → Says (sheet_text s out) (Answer.Row i n) out
+    pub stopped : (e : TextError) → RowsTold s (Err e) → Says (sheet_text s out) (Err e) out
     unfolding sheet_text
-    stopped i n e h f = rw (z, ← e, lt-ltb i (query_count s) h, ← f) (record { answers = refl; holds = refl })
+    stopped e h = rw (z, lt-ltb (first_stopped s) (query_count s) h.0) (record { answers = h.1; holds = refl })
 
-    module _ (h : query_count s ≤ first_stopped s) where
-      pub too_short : length out < length (text_of s) → Says (sheet_text s out) Short out
+    module _ (h : first_stopped s ≡ query_count s) where
+      not_below : ltb (first_stopped s) (query_count s) ≡ false
+      not_below = le-ltb (first_stopped s) (query_count s) (omega arith)
+
+      pub too_short : length out < length (text_of s) → Says (sheet_text s out) (Err Error.Short) out
       unfolding sheet_text
-      too_short k = rw (z, le-ltb (first_stopped s) (query_count s) h, lt-ltb (length out) (length (text_of s)) k) (record { answers = refl; holds = refl })
+      too_short k = rw (z, not_below, lt-ltb (length out) (length (text_of s)) k) (record { answers = refl; holds = refl })
 
-      pub written : length (text_of s) ≤ length out → (size : ℕ) (out' : List ℕ) → length (text_of s) ≡ size → out' ≡ text_of s ++ drop size out → Says (sheet_text s out) (Text size) out'
+      pub written : length (text_of s) ≤ length out → (size : ℕ) (out' : List ℕ) → length (text_of s) ≡ size → out' ≡ text_of s ++ drop size out → Says (sheet_text s out) (Ok size) out'
       unfolding sheet_text
       written k size out' e a =
-          rw (z, le-ltb (first_stopped s) (query_count s) h, le-ltb (length out) (length (text_of s)) k) (record { answers = ap Text (sym e); holds = a ∙ ap (λ (m : ℕ). text_of s ++ drop m out) (sym e) })
-
--- the length that is answered counts bytes of the output
-pub text_counts : (r : SheetText) (n : ℕ) (out : List ℕ) → r ≡ Text n → Counted r out → IsPrefixLen n out
-text_counts r n out e h = subst (λ (x : SheetText). Counted x out) e h
+          rw (z, not_below, le-ltb (length out) (length (text_of s)) k) (record { answers = ap text (sym e); holds = a ∙ ap (λ (m : ℕ). text_of s ++ drop m out) (sym e) })

@@ -4,9 +4,12 @@
 ghost use Rattle.std.specs.Prelude.{◌≡◌, ◌+◌, ◌≤◌, ◌<◌, length};
 ghost use Rattle.lists.specs.Lists.{joined};
 ghost use Rattle.text.specs.Written.{HasRoom, Gained};
-ghost use Rattle.typed_text.specs.SheetText.{stop_of, row_fault, fault_at, first_stopped, line_at, Placed, sheet_text, Says, Counted};
+ghost use Rattle.score_state.specs.Answer.{status_of, answer_of};
+ghost use Rattle.typed_text.specs.SheetText.{stop_of, row_fault, fault_at, line_at, Placed, RowsTold, sheet_text, Says, Counted};
+ghost use Rattle.typed_text.specs.declared.TextError.TheVariants.{Sheet};
 
 use records::Row;
+use refusals::Refusal;
 use text::Text;
 
 // Where a sheet's records are: specs/SheetText.antt says of each field what it is.
@@ -19,16 +22,23 @@ pub struct Places {
     pub queries: usize,
 }
 
-#[derive(Clone, Copy)]
-pub enum SheetText {
-    // The text's length.
-    Text(usize),
-    // The number of the sheet check that stops it.
-    Refused(u32),
+// Why a sheet has no text, or its text was not written.
+#[derive(Clone, Copy, PartialEq, Eq)]
+pub enum TextError {
+    // A check of the sheet stops it.
+    Sheet(Refusal),
     // The first row that check 8 or 9 stops, and which of them does.
-    Row { index: usize, number: u32 },
+    Row { index: usize, refusal: Refusal },
     // The output has too few bytes for the text.
     Short,
+}
+
+impl From<Refusal> for TextError {
+    ghost from_gives = { λ r e. e ≡ Sheet r };
+
+    fn from(refusal: Refusal) -> TextError {
+        TextError::Sheet(refusal)
+    }
 }
 
 fn places_of(sheet: &[u8]) -> Places
@@ -41,48 +51,48 @@ fn places_of(sheet: &[u8]) -> Places
     let from = scoring + 4 + 20 * own;
     let queries = records::read_count(sheet, from);
     Places {
-        charts: charts,
-        own: own,
+        charts,
+        own,
         weights: scoring + 4,
         rows: from + 4,
-        queries: queries,
+        queries,
     }
 }
 
-// Check 8 or 9 of a row, or 0.
-fn row_fault(row: Row) -> u32
-    ensures { result ≡ row_fault row }
+// Checks 8 and 9 of a row: the first that stops it is told.
+#[tactic(auto, unfolding(crate::specs::SheetText::row_fault))]
+fn check_row(row: Row) -> Result<(), Refusal>
+    ensures { status_of (answer_of result) ≡ row_fault row }
 {
     if row_checks::unknown_row(row) {
-        return 8;
+        return Err(Refusal::UnknownCode);
     }
     if row_checks::fields_left(row) {
-        return 9;
+        return Err(Refusal::LeftOver);
     }
-    0
+    Ok(())
 }
 
-fn fault_at(sheet: &[u8], p: Places, i: usize) -> u32
+fn check_at(sheet: &[u8], p: Places, i: usize) -> Result<(), Refusal>
     requires placed { Placed sheet.now p }
     requires i_lt_queries { i < p.queries }
-    ensures { result ≡ fault_at sheet.now i }
+    ensures { status_of (answer_of result) ≡ fault_at sheet.now i }
 {
     let base = p.rows;
-    row_fault(records::read_row(sheet, base + 48 * i))
+    check_row(records::read_row(sheet, base + 48 * i))
 }
 
-// The first row that check 8 or 9 stops, or the number of rows.
-fn first_stopped(sheet: &[u8], p: Places) -> usize
+// The first row that check 8 or 9 stops is told.
+fn check_rows(sheet: &[u8], p: Places) -> Result<(), TextError>
     requires { Placed sheet.now p }
-    ensures { result ≡ first_stopped sheet.now }
+    ensures { RowsTold sheet.now result }
 {
-    let n = p.queries;
-    for i in 0..n {
-        if fault_at(sheet, p, i) > 0 {
-            return i;
+    for index in 0..p.queries {
+        if let Err(refusal) = check_at(sheet, p, index) {
+            return Err(TextError::Row { index, refusal });
         }
     }
-    n
+    Ok(())
 }
 
 // Line j of the text.
@@ -157,27 +167,18 @@ fn write_lines(text: &mut Text<'_>, sheet: &[u8], p: Places, n: usize)
 }
 
 // The text of a sheet, at the front of the output.
-pub fn text_of(sheet: &[u8], out: &mut [u8]) -> SheetText
+pub fn text_of(sheet: &[u8], out: &mut [u8]) -> Result<usize, TextError>
     ensures outcome { Says (sheet_text sheet.now out.old) result out.new }
     ensures counted { Counted result out.new }
 {
-    let stop = sheets::sheet_stop(sheet, 36864);
-    if stop > 0 {
-        return SheetText::Refused(stop);
-    }
+    sheets::check(sheet, 36864)?;
     let p = places_of(sheet);
-    let index = first_stopped(sheet, p);
-    if index < p.queries {
-        return SheetText::Row {
-            index: index,
-            number: fault_at(sheet, p, index),
-        };
-    }
+    check_rows(sheet, p)?;
     let n = p.charts + p.own + p.queries;
     if out.len() < text_size(sheet, p, n) {
-        return SheetText::Short;
+        return Err(TextError::Short);
     }
     let mut text = Text::new(out);
     write_lines(&mut text, sheet, p, n);
-    SheetText::Text(text.len())
+    Ok(text.len())
 }

@@ -1,6 +1,5 @@
 -- `typed_text::text_size` meets its contract. Assumes nothing.
 use mathlib.Core.Path.{◌≡◌, refl}
-use Prim.Native.Nat.{◌-◌}
 use native.Mathlib.Omega.{arith}
 use Rattle.typed_text.specs.SheetText.{line_at}
 use Rattle.typed_text.proofs.Inside.{placed}

@@ -1,10 +1,10 @@
--- `typed_text::fault_at` meets its contract. Assumes nothing.
+-- `typed_text::check_at` meets its contract. Assumes nothing.
 use mathlib.Core.Path.{◌∙◌, ap}
 use native.Mathlib.Omega.{arith}
 use Rattle.sheets_laws.specs.Sheets.{row_of}
 use Rattle.typed_text.specs.SheetText.{row_fault, fault_at}
 use Rattle.typed_text.proofs.Inside.{placed, rows-at}
-use Rattle.typed_text.proofs.fault_at.Goals as goal
+use Rattle.typed_text.proofs.check_at.Goals as goal
 
 pub overflow_mul-i : goal.overflow_mul-i
 overflow_mul-i c = let w = placed c.args.sheet.now c.args.p c.requires.placed in omega arith
@@ -19,4 +19,4 @@ pub returns : goal.returns
 unfolding fault_at row_of
 returns c =
     let x = c.args in
-    c.row_fault.ensures ∙ ap row_fault c.read_row.ensures ∙ rw (rows-at x.sheet.now x.p c.requires.placed)
+    c.check_row.ensures ∙ ap row_fault c.read_row.ensures ∙ rw (rows-at x.sheet.now x.p c.requires.placed)
