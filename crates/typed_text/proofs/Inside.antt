@@ -1,15 +1,15 @@
 -- The places of a sheet that no check stops lie within it.
 -- Assumes nothing.
-use mathlib.Core.Path.{◌≡◌, sym, ap}
+use mathlib.Core.Path.{◌≡◌, ap}
 use mathlib.Core.List.{List}
 use Prim.Native.Nat.{ℕ, ◌+◌, ◌*◌, ◌≤◌}
 use native.Mathlib.Omega.{arith}
 use lib.ListN.{length}
 use Rattle.little_endian.specs.Bytes.{u32_at}
-use Rattle.sheets_laws.specs.Sheets.{chart_count, scoring_at, own_count, queries_at, query_count, rows_at}
+use Rattle.sheets_laws.specs.Sheets.{chart_count, scoring_at, own_count, query_count, rows_at}
 use Rattle.sheets_laws.proofs.Accepted.{Accepted, accepted}
 use Rattle.typed_text.specs.declared.Places.{Places}
-use Rattle.typed_text.specs.SheetText.{stop_of, places_of, Placed}
+use Rattle.typed_text.specs.SheetText.{stop_of, Placed}
 
 -- the limits, by how many charts, own weights and queries there are
 pub record Within (size charts own weights rows queries : ℕ) : Type 0 where

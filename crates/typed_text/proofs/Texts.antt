@@ -22,7 +22,7 @@ use Rattle.typed_text.specs.declared.Places.{Places}
 use Rattle.typed_text.specs.declared.SheetText.{SheetText}
 use Rattle.typed_text.specs.declared.SheetText.TheVariants.{Text, Refused, Short}
 use Rattle.typed_text.specs.declared.SheetText.TheVariants as Answer
-use Rattle.typed_text.specs.SheetText.{stop_of, fault_at, first_from, first_stopped, line_at, line_count, text_of, sheet_text, Placed, Says, Counted}
+use Rattle.typed_text.specs.SheetText.{stop_of, fault_at, first_from, first_stopped, line_at, text_of, sheet_text, Placed, Says, Counted}
 use Rattle.typed_text.proofs.Inside.{charts_are, own_are, weights-at, rows-at, queries_are}
 
 -- ---- row by row

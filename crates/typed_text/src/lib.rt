@@ -2,9 +2,8 @@
 #![tactic(auto)]
 
 ghost use Rattle.std.specs.Prelude.{◌≡◌, ◌+◌, ◌≤◌, ◌<◌, length};
-ghost use Rattle.lists.specs.Lists.{joined};
 ghost use Rattle.text.specs.Written.{HasRoom, Gained};
-ghost use Rattle.typed_text.specs.SheetText.{stop_of, row_fault, fault_at, first_stopped, line_at, Placed, sheet_text, Says, Counted};
+ghost use Rattle.typed_text.specs.SheetText.{stop_of, row_fault, fault_at, first_stopped, line_at, line_count, text_of, Placed, sheet_text, Says, Counted};
 
 use records::Row;
 use text::Text;
@@ -62,97 +61,106 @@ fn row_fault(row: Row) -> u32
     0
 }
 
-fn fault_at(sheet: &[u8], p: Places, i: usize) -> u32
-    requires placed { Placed sheet.now p }
-    requires i_lt_queries { i < p.queries }
-    ensures { result ≡ fault_at sheet.now i }
-{
-    let base = p.rows;
-    row_fault(records::read_row(sheet, base + 48 * i))
+// A sheet that no check stops, and where its records are.
+#[derive(Clone, Copy)]
+struct Sheet<'a> {
+    bytes: &'a [u8],
+    places: Places,
+    ghost placed: { Placed bytes.now places },
 }
 
-// The first row that check 8 or 9 stops, or the number of rows.
-fn first_stopped(sheet: &[u8], p: Places) -> usize
-    requires { Placed sheet.now p }
-    ensures { result ≡ first_stopped sheet.now }
-{
-    let n = p.queries;
-    for i in 0..n {
-        if fault_at(sheet, p, i) > 0 {
-            return i;
+impl Sheet<'_> {
+    fn line_count(&self) -> usize
+        ensures { (result ≡ line_count self.now.bytes.now) × (result ≤ 1281) }
+    {
+        let p = self.places;
+        p.charts + p.own + p.queries
+    }
+
+    fn fault_at(&self, i: usize) -> u32
+        requires { i < self.now.places.queries }
+        ensures { result ≡ fault_at self.now.bytes.now i }
+    {
+        let base = self.places.rows;
+        row_fault(records::read_row(&self.bytes, base + 48 * i))
+    }
+
+    // The first row that check 8 or 9 stops, or the number of rows.
+    fn first_stopped(&self) -> usize
+        ensures { result ≡ first_stopped self.now.bytes.now }
+    {
+        let n = self.places.queries;
+        for i in 0..n {
+            if self.fault_at(i) > 0 {
+                return i;
+            }
         }
+        n
     }
-    n
-}
 
-// Line j of the text.
-fn put_line(line: &mut Text<'_>, sheet: &[u8], p: Places, j: usize)
-    requires placed { Placed sheet.now p }
-    requires j_bound { j < p.charts + p.own + p.queries }
-    requires room { HasRoom line.old 195 }
-    ensures gained { Gained line.old line.new (line_at sheet.now j) }
-    ensures upper_bound { line.new.len ≤ line.old.len + 195 }
-{
-    let charts = p.charts;
-    if j < charts {
-        return sheet_lines::put_chart(line, records::read_chart(sheet, 4 + 8 * j));
+    // Line j of the text.
+    fn put_line(&self, line: &mut Text<'_>, j: usize)
+        requires j_bound { j < line_count self.now.bytes.now }
+        requires room { HasRoom line.old 195 }
+        ensures gained { Gained line.old line.new (line_at self.now.bytes.now j) }
+        ensures upper_bound { line.new.len ≤ line.old.len + 195 }
+    {
+        let p = self.places;
+        if j < p.charts {
+            let chart = records::read_chart(&self.bytes, 4 + 8 * j);
+            return sheet_lines::put_chart(line, chart);
+        }
+        let before = p.charts + p.own;
+        if j < before {
+            let weights = records::read_weights(&self.bytes, p.weights);
+            return sheet_lines::put_weights(line, weights);
+        }
+        let row = records::read_row(&self.bytes, p.rows + 48 * (j - before));
+        sheet_lines::put_play(line, row);
     }
-    let before = charts + p.own;
-    if j < before {
-        let at = p.weights;
-        return sheet_lines::put_weights(line, records::read_weights(sheet, at));
+
+    fn line_size(&self, j: usize) -> usize
+        requires { j < line_count self.now.bytes.now }
+        ensures { (result ≡ length (line_at self.now.bytes.now j)) × (result ≤ 195) }
+    {
+        let mut bytes = [0u8; sheet_lines::ROOM];
+        let mut line = Text::new(&mut bytes);
+        self.put_line(&mut line, j);
+        line.len()
     }
-    let base = p.rows;
-    sheet_lines::put_play(line, records::read_row(sheet, base + 48 * (j - before)));
-}
 
-fn line_size(sheet: &[u8], p: Places, j: usize) -> usize
-    requires placed { Placed sheet.now p }
-    requires j_bound { j < p.charts + p.own + p.queries }
-    ensures { (result ≡ length (line_at sheet.now j)) × (result ≤ 195) }
-{
-    let mut bytes = [0u8; sheet_lines::ROOM];
-    let mut line = Text::new(&mut bytes);
-    put_line(&mut line, sheet, p, j);
-    line.len()
-}
-
-// How many bytes the first n lines have.
-fn text_size(sheet: &[u8], p: Places, n: usize) -> usize
-    requires placed { Placed sheet.now p }
-    requires n_value { n ≡ p.charts + p.own + p.queries }
-    ensures { result ≡ length (joined (line_at sheet.now) n) }
-{
-    let mut size: usize = 0;
-    for j in 0..n {
-        size += line_size(sheet, p, j);
+    // How many bytes the text has.
+    fn text_size(&self) -> usize
+        ensures { result ≡ length (text_of self.now.bytes.now) }
+    {
+        let mut size: usize = 0;
+        for j in 0..self.line_count() {
+            size += self.line_size(j);
+        }
+        size
     }
-    size
-}
 
-// Line j, where there may be room for no more.
-fn write_line(text: &mut Text<'_>, sheet: &[u8], p: Places, j: usize)
-    requires placed { Placed sheet.now p }
-    requires j_bound { j < p.charts + p.own + p.queries }
-    requires room { HasRoom text.old (length (line_at sheet.now j)) }
-    ensures { Gained text.old text.new (line_at sheet.now j) }
-{
-    let mut bytes = [0u8; sheet_lines::ROOM];
-    let mut line = Text::new(&mut bytes);
-    put_line(&mut line, sheet, p, j);
-    let end = line.len();
-    text.put_bytes(&bytes[..end]);
-}
+    // Line j, where there may be room for no more.
+    fn write_line(&self, text: &mut Text<'_>, j: usize)
+        requires j_bound { j < line_count self.now.bytes.now }
+        requires room { HasRoom text.old (length (line_at self.now.bytes.now j)) }
+        ensures { Gained text.old text.new (line_at self.now.bytes.now j) }
+    {
+        let mut bytes = [0u8; sheet_lines::ROOM];
+        let mut line = Text::new(&mut bytes);
+        self.put_line(&mut line, j);
+        let end = line.len();
+        text.put_bytes(&bytes[..end]);
+    }
 
-// The first n lines.
-fn write_lines(text: &mut Text<'_>, sheet: &[u8], p: Places, n: usize)
-    requires placed { Placed sheet.now p }
-    requires n_value { n ≡ p.charts + p.own + p.queries }
-    requires room { HasRoom text.old (length (joined (line_at sheet.now) n)) }
-    ensures { Gained text.old text.new (joined (line_at sheet.now) n) }
-{
-    for j in 0..n {
-        write_line(text, sheet, p, j);
+    // The text.
+    fn write_text(&self, text: &mut Text<'_>)
+        requires { HasRoom text.old (length (text_of self.now.bytes.now)) }
+        ensures { Gained text.old text.new (text_of self.now.bytes.now) }
+    {
+        for j in 0..self.line_count() {
+            self.write_line(text, j);
+        }
     }
 }
 
@@ -165,19 +173,22 @@ pub fn text_of(sheet: &[u8], out: &mut [u8]) -> SheetText
     if stop > 0 {
         return SheetText::Refused(stop);
     }
-    let p = places_of(sheet);
-    let index = first_stopped(sheet, p);
-    if index < p.queries {
+    let places = places_of(sheet);
+    let sheet = Sheet {
+        bytes: sheet,
+        places,
+    };
+    let index = sheet.first_stopped();
+    if index < places.queries {
         return SheetText::Row {
             index: index,
-            number: fault_at(sheet, p, index),
+            number: sheet.fault_at(index),
         };
     }
-    let n = p.charts + p.own + p.queries;
-    if out.len() < text_size(sheet, p, n) {
+    if out.len() < sheet.text_size() {
         return SheetText::Short;
     }
     let mut text = Text::new(out);
-    write_lines(&mut text, sheet, p, n);
+    sheet.write_text(&mut text);
     SheetText::Text(text.len())
 }

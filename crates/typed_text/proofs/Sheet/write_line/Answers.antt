@@ -1,11 +1,11 @@
--- `typed_text::write_line` meets its contract. Assumes nothing.
+-- `typed_text::Sheet::write_line` meets its contract. Assumes nothing.
 use mathlib.Core.Path.{ap}
 use native.Mathlib.Omega.{arith}
 use borrow.Author.Rules.{rules}
 use lib.ListN.{length, take}
 use Rattle.text.specs.Written.{HasRoom}
 use Rattle.text.proofs.Written.{front, restated}
-use Rattle.typed_text.proofs.write_line.Goals as goal
+use Rattle.typed_text.proofs.Sheet.write_line.Goals as goal
 
 pub put_bytes-requires : goal.put_bytes-requires
 put_bytes-requires c =
