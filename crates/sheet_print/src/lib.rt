@@ -10,7 +10,8 @@ ghost use Rattle.table.specs.Table.{printed_of};
 
 use std::io::{Read, Stderr, Stdin, Stdout, Write};
 
-// Prints a sheet, and answers whether all was written.
+// Prints a sheet, and answers whether all was written. Stays beside that of stride_print: they share one call, and the clauses of a function
+// over that call would be longer than both bodies.
 fn print_table<O: Write, E: Write>(sheet: &[u8], output: &mut O, errors: &mut E) -> bool
     ensures { OnTrue result (Appends (O.contents output.old) (O.contents output.new) (printed_of sheet.now)) }
 {

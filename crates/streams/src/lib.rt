@@ -13,13 +13,15 @@ use std::io::{Read, Result, Write};
 // The most that is read of a sheet: a full one with own weights, 51,232 bytes, and one byte more, which shows that bytes follow the last query.
 pub const MOST_OF_SHEET: usize = 4 + 256 * 8 + 4 + 5 * 4 + 4 + 1024 * 48 + 1;
 
-// Reads to the end of the input, until the buffer is full or until a read fails, and answers how many bytes came, and whether none failed.
+// Reads to the end of the input, until the buffer is full or until a read fails, and answers how many bytes came, those before a failure
+// too, and whether none failed.
 fn fill<R: Read>(reader: &mut R, buf: &mut [u8]) -> (usize, Result<()>)
     ensures in_bounds { IsPrefixLen result.0 buf.new }
     ensures bytes { Consumes (R.remaining reader.old) (R.remaining reader.new) (take result.0 buf.new) }
     ensures end { OnOk result.1 (result.0 < length buf.new → IsAtEnd (R.remaining reader.new)) }
 {
     let mut done: usize = 0;
+    // Stays a while: each read says how many bytes came, and no for is plainer.
     while done < buf.len() {
         match reader.read(&mut buf[done..]) {
             Ok(0) => return (done, Ok(())),

@@ -13,7 +13,7 @@ use std::io::{Read, Stderr, Stdin, Stdout, Write};
 // The most that is read: ten weights, 40 bytes, and one byte more, which shows that there are more.
 const MOST_READ: usize = 41;
 
-// Prints the table of these weights, and answers whether all was written.
+// Prints the table of these weights, and answers whether all was written. Stays beside that of sheet_print, which says why.
 fn print_table<O: Write, E: Write>(weights: &[u8], output: &mut O, errors: &mut E) -> bool
     ensures { OnTrue result (Appends (O.contents output.old) (O.contents output.new) (printed_strides weights.now)) }
 {

@@ -52,7 +52,8 @@ fn make_sheet<O: Write, E: Write>(text: &[u8], output: &mut O, errors: &mut E) -
     }
 }
 
-// The same with what is printed of the sheet.
+// The same with what is printed of the sheet. Stays beside make_sheet: they share one call, and the clauses of a function over what they call
+// would be longer than both bodies.
 fn print_table<O: Write, E: Write>(text: &[u8], output: &mut O, errors: &mut E) -> bool
     ensures { OnTrue result ((bytes : List ℕ) × (length text.now ≤ 262144) × (table_answer text.now ≡ made bytes) × Appends (O.contents output.old) (O.contents output.new) bytes) }
 {
