@@ -25,7 +25,8 @@ pub fn sheet_or_fault(
         Err(TypedError::Faulty(f)) => {
             let end = f.word.at + f.word.size;
             let word = &text[f.word.at..end];
-            Err(Told(fault_text::tell_fault(f.line, f.fault, word, message)))
+            let number = u32::from(f.fault);
+            Err(Told(fault_text::tell_fault(f.line, number, word, message)))
         }
         // It never is: no sheet of a text is longer than the room.
         Err(TypedError::Short) => Err(Told(0)),

@@ -1,7 +1,7 @@
 // The lines and the words of a typed sheet: where they start and end, whether a word is a keyword, and the values that words stand for.
 #![tactic(auto)]
 
-ghost use Rattle.std.specs.Prelude.{◌≡◌, false, ◌+◌, ◌*◌, ◌<◌, ◌≤◌, length, take, drop, not, eqb, IfSome};
+ghost use Rattle.std.specs.Prelude.{◌≡◌, false, ◌+◌, ◌*◌, ◌<◌, ◌≤◌, length, take, drop, not, eqb, IfSome, IfNone};
 ghost use Rattle.std.specs.List.{position_from};
 ghost use Rattle.std.specs.Float.{binary64};
 ghost use Rattle.std.specs.Float.Ieee.{round, to_bits};
@@ -304,24 +304,16 @@ pub fn percentage(w: &[u8]) -> Result<u64, Fault>
     before_point(w)
 }
 
-// 0 to 15, or 16 for no hex digit.
-fn hex_digit(b: u8) -> u64
-    ensures { (result ≡ hex_digit b) × (result ≤ 16) }
+// The value of a hex digit in small letters.
+fn hex_digit(b: u8) -> Option<u64>
+    ensures none { IfNone result (hex_digit b ≡ 16) }
+    ensures some { IfSome result (λ d. (d ≡ hex_digit b) × (d < 16)) }
 {
-    let c = u64::from(b);
-    if c < 48 {
-        return 16;
+    match b {
+        b'0'..=b'9' => Some(u64::from(b - b'0')),
+        b'a'..=b'f' => Some(u64::from(b - b'a') + 10),
+        _ => None,
     }
-    if c < 58 {
-        return c - 48;
-    }
-    if c < 97 {
-        return 16;
-    }
-    if c < 103 {
-        return c - 87;
-    }
-    16
 }
 
 // Sixteen hex digits.
@@ -333,10 +325,9 @@ pub fn hex_bits(w: &[u8]) -> Result<u64, Fault>
     }
     let mut v: u64 = 0;
     for b in w {
-        let d = hex_digit(b.to_ascii_lowercase());
-        if d == 16 {
+        let Some(d) = hex_digit(b.to_ascii_lowercase()) else {
             return Err(Fault::NotHex);
-        }
+        };
         v = 16 * v + d;
     }
     Ok(v)

@@ -5,7 +5,6 @@ use native.Mathlib.Omega.{arith}
 use lib.ListN.{take, drop}
 use borrow.Author.Rules.{rules}
 use Rattle.std.specs.Prelude.{Err}
-use Rattle.words.specs.Faults.{fault_number}
 use Rattle.fault_text.specs.FaultText.{fault_text}
 use Rattle.typed_answer.specs.Answers.{told}
 use Rattle.typed_answer.proofs.Cases.{in_full, at_fault, word_inside, never_short}
@@ -39,11 +38,12 @@ returns-in-Err-Faulty c =
     let m = c.tell_fault.ensures in
     let a = f.f.word.at in
     let z = f.f.word.size in
-    let n = fault_number f.f.fault in
+    let n = c.from-number.result in
     let e : a + z - a ≡ z = omega arith in
     let w : fault_text f.f.line n (take (a + z - a) (drop a x.text.now)) ≡ fault_text f.f.line n (take z (drop a x.text.now)) =
     ap (λ (k : ℕ). fault_text f.f.line n (take k (drop a x.text.now))) e in
-    record { held = m.counted; is = ap told (m.told ∙ w) ∙ at_fault x.text.now x.sheet.now r.result f.f r.new.out (f.is ∙ ap Err f.field-0-is) r.ensures }
+    let y = ap (λ (k : ℕ). told (fault_text f.f.line k (take z (drop a x.text.now)))) c.from-number.ensures in
+    record { held = m.counted; is = ap told (m.told ∙ w) ∙ y ∙ at_fault x.text.now x.sheet.now r.result f.f r.new.out (f.is ∙ ap Err f.field-0-is) r.ensures }
 
 pub returns-in-Err-Short : goal.returns-in-Err-Short
 returns-in-Err-Short c =

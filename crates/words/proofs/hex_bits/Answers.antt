@@ -19,13 +19,13 @@ pub loop-b-init : goal.loop-b-init
 unfolding hex_of
 loop-b-init c = (omega arith, c.if-w-ne16.false, omega arith, rw (eq-eqb (length c.args.w.now) 16 c.if-w-ne16.false))
 
-pub returns-then-d-eq16 : goal.returns-then-d-eq16
-returns-then-d-eq16 c =
+pub returns-in_default : goal.returns-in_default
+returns-in_default c =
     let w = c.args.w.now in
     let l = c.loop-b in
-    let d = c.hex_digit-d in
-    let e = d.ensures.0 ∙ ap hex_digit (c.to_ascii_lowercase.ensures.value ∙ lowercase-small (get_or w l.b-index 0)) in
-    sym (hex-none w l.b-index d.result (omega arith) e l.v c.if-d-eq16.true) ∙ l.invariant.3
+    let b = c.to_ascii_lowercase in
+    let e = ap hex_digit (b.ensures.value ∙ lowercase-small (get_or w l.b-index 0)) in
+    sym (hex-none w l.b-index (hex_digit b.result) (omega arith) e l.v c.in_default.ensures.none) ∙ l.invariant.3
 
 pub overflow_mul-v : goal.overflow_mul-v
 overflow_mul-v c =
@@ -39,16 +39,16 @@ overflow_add-v c =
     let l = c.loop-b in
     let h : l.b-index ≤ 15 = omega arith in
     let p : 16 ^ l.b-index ≤ 1152921504606846976 = pow-le-pow_right (omega arith) h in
-    omega arith
+    omega (arith, c.in-Some.ensures.some.1)
 
 pub loop-b-preserved : goal.loop-b-preserved
 loop-b-preserved c =
     let w = c.args.w.now in
     let l = c.loop-b in
-    let d = c.hex_digit-d in
-    let e = d.ensures.0 ∙ ap hex_digit (c.to_ascii_lowercase.ensures.value ∙ lowercase-small (get_or w l.b-index 0)) in
+    let d = c.in-Some.ensures.some in
+    let e = d.0 ∙ ap hex_digit (c.to_ascii_lowercase.ensures.value ∙ lowercase-small (get_or w l.b-index 0)) in
     let p : 16 ^ (l.b-index + 1) ≡ 16 ^ l.b-index * 16 = rw (add-one l.b-index) (pow-suc 16 l.b-index) in
-    (omega arith, l.invariant.1, omega arith, sym (hex_on w l.b-index d.result (omega arith) e l.v c.if-d-eq16.false) ∙ l.invariant.3)
+    (omega arith, l.invariant.1, omega (arith, d.1), sym (hex_on w l.b-index c.in-Some.d (omega arith) e l.v (λ z. omega (arith, d.1))) ∙ l.invariant.3)
 
 pub returns : goal.returns
 returns c =
