@@ -48,9 +48,7 @@ fn nearest_counts(q: Query, acc: Acc, weights: Weights) -> Result<Generated, Ref
     };
     let split = nearest::nearest(weights, q.presence, given, remain, target)?;
     let five = split.counts;
-    let counts = HitResults::of(
-        five.n320, five.n300, five.n200, five.n100, five.n50, missed,
-    );
+    let counts = HitResults::of(five.n320, five.n300, five.n200, five.n100, five.n50, missed);
     let points = score_state::points_of(weights, counts);
     Ok(Generated {
         counts,

@@ -12,9 +12,8 @@ use inspect::{Chart, Query};
 use little_endian::{f64_of, u32_at, u64_at};
 use refusals::Refusal;
 use score_state::HitResults;
-use std::fmt;
-use std::io;
 use std::io::Write;
+use std::{fmt, io};
 
 type Record = [u8; 92];
 

@@ -22,10 +22,12 @@ returns c =
     let w = c.work_sheet in
     let text = c.match-work_sheet in
     let p : Gained c.new-text.result text.text (printed_of c.args.sheet.now) =
-    elim text.branch
-    [ in-Ok a ↦ rw a.text-is (restated a.put_table.ensures (by_case c.args.sheet.now w.new.out w.result _ a.in-Ok.is w.ensures.equation))
-    | in-Err a ↦ rw a.text-is (restated a.put_refused.ensures (ap refused_text a.into.ensures ∙ by_case c.args.sheet.now w.new.out w.result _ a.in-Err.is w.ensures.equation)) ] in
+    elim text.branch [
+      | in-Ok a ↦ rw a.text-is (restated a.put_table.ensures (by_case c.args.sheet.now w.new.out w.result _ a.in-Ok.is w.ensures.equation))
+      | in-Err a ↦ rw a.text-is (restated a.put_refused.ensures (ap refused_text a.into.ensures ∙ by_case c.args.sheet.now w.new.out w.result _ a.in-Err.is w.ensures.equation))
+    ] in
     record {
       counted = search rules;
       printed = front p c.new-text.ensures.empty c.new-text.ensures.bytes c.len.ensures;
-      beyond = beyond p c.new-text.ensures.empty c.new-text.ensures.bytes c.len.ensures }
+      beyond = beyond p c.new-text.ensures.empty c.new-text.ensures.bytes c.len.ensures;
+    }
