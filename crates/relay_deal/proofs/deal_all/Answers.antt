@@ -1,5 +1,4 @@
 -- `deal_all`: the numbers of the charts before k are written, and the others are those of what is left.
-use Prim.Native.Nat.{◌-◌}
 use mathlib.Core.Path.{◌≡◌, refl}
 use native.Mathlib.Nat.{sub-zero}
 use native.Mathlib.Omega.{arith}

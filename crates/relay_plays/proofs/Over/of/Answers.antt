@@ -1,5 +1,4 @@
 -- `Over::of`: what was found of the charts before k, with what is still to be found, is what is to be found of all.
-use Prim.Native.Nat.{◌-◌}
 use mathlib.Core.Path.{◌≡◌, sym, ◌∙◌}
 use native.Mathlib.Nat.{sub-zero}
 use native.Mathlib.Omega.{arith}
