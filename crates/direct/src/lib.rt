@@ -32,14 +32,12 @@ fn hand(answer: Result<Generated, Refusal>, out: &mut [u32]) -> Result<(), Refus
     ensures out_after_2 { answer_in (status_of (answer_of result)) (take 8 out.new) ≡ generated_of answer }
 {
     let g = answer?;
-    out[0] = g.counts.n320;
-    out[1] = g.counts.n300;
-    out[2] = g.counts.n200;
-    out[3] = g.counts.n100;
-    out[4] = g.counts.n50;
-    out[5] = g.counts.misses;
-    out[6] = g.tried;
-    out[7] = points_left::bits_of(g.left);
+    let c = g.counts;
+    let left = points_left::bits_of(g.left);
+    let eight = [
+        c.n320, c.n300, c.n200, c.n100, c.n50, c.misses, g.tried, left,
+    ];
+    out[..8].copy_from_slice(&eight);
     Ok(())
 }
 

@@ -10,7 +10,8 @@ use inspect::Chart;
 use score_state::{HitResults, Weights};
 use weighting::Scoring;
 
-// A query as it stands in the sheet: holds_given is byte 6, zero byte 7, acc the bits of its f64, holds_passed the last field.
+// A query as it stands in the sheet: holds_given is byte 6, zero byte 7, acc the bits of its f64, holds_passed the last field. The bytes stay
+// numbers: checks 8 and 9 are of any byte (`row_checks::unknown_row`, `fields_left`).
 #[derive(Clone, Copy)]
 pub struct Row {
     pub chart: u32,

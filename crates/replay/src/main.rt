@@ -67,7 +67,7 @@ fn counts_of(record: &Record) -> HitResults {
     }
 }
 
-// The query of a record; where the acc bit of presence is 0, the accuracy is absent.
+// The query of a record; the method stays a number, as the direct call takes it. Where the acc bit of presence is 0, the accuracy is absent.
 fn query_of(record: &Record, method: u8) -> Query {
     let presence = record[3];
     let given = inspect::is_given(presence, inspect::ACC);

@@ -103,10 +103,8 @@ pub fn target_numbers(
     );
     match rounded_target(q) {
         Ok(t) => {
-            out[0] = t.total_hits.0;
-            out[1] = t.misses.0;
-            out[2] = t.remain.0;
-            out[3] = t.target.0;
+            let four = [t.total_hits.0, t.misses.0, t.remain.0, t.target.0];
+            out[..4].copy_from_slice(&four);
             0
         }
         Err(refusal) => refusal.into(),

@@ -49,7 +49,7 @@ pub fn unknown_row(row: Row) -> bool
     row.method > 3 || row.priority > 1 || row.classic > 1
 }
 
-// Check 19: Fast and Closest have no own weights.
+// Check 19: Fast and Closest have no own weights. The method stays the row's byte, of which check 8 speaks.
 fn own_unfit(scoring: Scoring, method: u8) -> bool
     ensures { result ≡ own_unfit scoring method }
 {

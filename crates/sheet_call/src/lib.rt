@@ -13,13 +13,8 @@ fn hand_totals(t: Totals, out: &mut [u64])
     requires { 7 ≤ length out.old }
     ensures { out.new ≡ seven_of t ++ drop 7 out.old }
 {
-    out[0] = t.rows;
-    out[1] = t.n320;
-    out[2] = t.n300;
-    out[3] = t.n200;
-    out[4] = t.n100;
-    out[5] = t.n50;
-    out[6] = t.misses;
+    let seven = [t.rows, t.n320, t.n300, t.n200, t.n100, t.n50, t.misses];
+    out[..7].copy_from_slice(&seven);
 }
 
 // Works a sheet: 0 with an answer of 36 bytes for each query in out and their seven numbers in totals, or 1 to 5 or 18 with both

@@ -49,6 +49,7 @@ pub fn put_weights(text: &mut Text<'_>, w: Weights)
     text.put_byte(b'\n');
 }
 
+// The method stays the row's byte, which check 8 lets through.
 fn put_method(text: &mut Text<'_>, method: u8)
     requires { HasRoom text.old 8 }
     ensures gained { Gained text.old text.new (spaced (method_word method ∷ [])) }

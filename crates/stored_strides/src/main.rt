@@ -2,6 +2,7 @@
 // is expected. `tests/beside/run stored_strides` writes both.
 #![tactic(auto)]
 
+// One call, which names the program once for all files.
 fn stored(rt: &HostRuntime, name: &[u8]) {
     stored_files::print_stored(rt, name, |file, output, errors| {
         stride_print::print_from(file, output, errors)

@@ -6,10 +6,12 @@ ghost use Rattle.std.specs.Prelude.{◌≡◌};
 ghost use Rattle.std.specs.Bool.{OnTrue};
 ghost use Rattle.std.specs.Io.KnownBytes.{Appends};
 ghost use Rattle.streams.specs.Input.{Passes};
+ghost use Rattle.refusals.specs.Refusal.{number_of};
 ghost use Rattle.text.specs.Written.{HasRoom, Gained};
 ghost use Rattle.typed_text.specs.SheetText.{text_of};
 ghost use Rattle.text_print.specs.Stopped.{stopped_text};
 
+use refusals::Refusal;
 use std::io::{Read, Stderr, Stdin, Stdout, Write};
 use text::Text;
 use typed_text::TextError;
@@ -18,14 +20,14 @@ use typed_text::TextError;
 const ROOM: usize = 256 * 28 + 63 + 1024 * sheet_lines::ROOM;
 
 // The line of a row that is stopped.
-fn put_stopped(text: &mut Text<'_>, index: usize, number: u32)
+fn put_stopped(text: &mut Text<'_>, index: usize, refusal: Refusal)
     requires { HasRoom text.old 37 }
-    ensures { Gained text.old text.new (stopped_text index number) }
+    ensures { Gained text.old text.new (stopped_text index (number_of refusal)) }
 {
     text.put_bytes(b"row ");
     text.put_number(index as u64);
     text.put_bytes(b": ");
-    text.put_decimal(number);
+    text.put_decimal(refusal.into());
     text.put_byte(b'\n');
 }
 
@@ -41,10 +43,8 @@ fn print_text<O: Write, E: Write>(sheet: &[u8], output: &mut O, errors: &mut E) 
             let message = b"sheet_text: cannot write the text\n";
             return streams::write_text(output, errors, &text[..end], message);
         }
-        Err(TextError::Sheet(refusal)) => line.put_refused(u32::from(refusal)),
-        Err(TextError::Row { index, refusal }) => {
-            put_stopped(&mut line, index, u32::from(refusal));
-        }
+        Err(TextError::Sheet(refusal)) => line.put_refused(refusal.into()),
+        Err(TextError::Row { index, refusal }) => put_stopped(&mut line, index, refusal),
         Err(TextError::Short) => line.put_bytes(b"sheet_text: the text is too long\n"),
     }
     let end = line.len();

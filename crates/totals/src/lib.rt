@@ -23,7 +23,7 @@ fn plus_at(sum: u64, out: &[u8], at: usize) -> u64
     requires at_in_bounds { at + 4 ≤ length out.now }
     ensures { (result ≡ sum + u32_at out.now at) × (result ≤ sum + 4294967295) }
 {
-    sum + little_endian::u32_at(out, at) as u64
+    sum + u64::from(little_endian::u32_at(out, at))
 }
 
 impl Totals {

@@ -8,7 +8,8 @@ ghost use Rattle.weighting.specs.Scoring.{allowed};
 
 use score_state::Weights;
 
-// By which weights a sheet's rows are scored: by the two standard weightings, or by a league's own.
+// By which weights a sheet's rows are scored: by the two standard weightings, or by a league's own. No `Option`: without own weights a row has
+// those of its own classic flag, which `None` would not say.
 #[derive(Clone, Copy)]
 pub enum Scoring {
     Standard,

@@ -1,6 +1,8 @@
 -- `rounded_target::target_numbers` meets its contract. Assumes nothing.
-use mathlib.Core.Path.{sym, ap, ◌∙◌}
-use mathlib.Core.List.{[], ◌∷◌}
+use mathlib.Core.Path.{◌≡◌, sym, ap, ◌∙◌}
+use mathlib.Core.List.{List, [], ◌∷◌, ◌++◌}
+use lib.ListN.{drop}
+use lib.Seq.{sets, sets-eq}
 use Prim.Native.Nat.{ℕ}
 use native.Mathlib.Omega.{arith}
 use Rattle.score_state.specs.Lent.{lent}
@@ -19,7 +21,11 @@ pub returns-in-Ok : goal.returns-in-Ok
 returns-in-Ok c =
     let x = c.args in
     let t = c.in-Ok.t in
-    handed-worked 4 (t.total_hits.0 ∷ t.misses.0 ∷ t.remain.0 ∷ t.target.0 ∷ []) (target_answer (target_query x.objects x.holds x.classic x.presence x.misses x.passed x.holds_given x.holds_passed x.acc)) x.out.now
+    let four = t.total_hits.0 ∷ t.misses.0 ∷ t.remain.0 ∷ t.target.0 ∷ [] in
+    let stores : sets x.out.now 0 four ≡ four ++ drop 4 x.out.now = sets-eq four x.out.now 0 (omega arith) in
+    ap (λ (w : List ℕ). lent 0 (w ++ drop 4 x.out.now)) c.copy_from_slice.ensures.after
+    ∙ ap (lent 0) (sym stores)
+    ∙ handed-worked 4 four (target_answer (target_query x.objects x.holds x.classic x.presence x.misses x.passed x.holds_given x.holds_passed x.acc)) x.out.now
     c.if-out-lt4.false (omega arith) (sym (ap answer_of c.in-Ok.is) ∙ c.rounded_target.ensures ∙ ap target_answer c.target_query-q.ensures)
 
 pub returns-in-Err : goal.returns-in-Err

@@ -25,4 +25,4 @@ put_byte-requires c = omega (arith, within c.args.index (search rules))
 
 pub returns : goal.returns
 unfolding stopped_text
-returns c = followed (followed (followed (followed c.put_bytes.ensures c.put_number.ensures) c.put_bytes-2.ensures) c.put_decimal.ensures.gained) c.put_byte.ensures
+returns c = rw (← c.into.ensures) (followed (followed (followed (followed c.put_bytes.ensures c.put_number.ensures) c.put_bytes-2.ensures) c.put_decimal.ensures.gained) c.put_byte.ensures)
