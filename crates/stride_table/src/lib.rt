@@ -40,7 +40,7 @@ fn put_rows(first: Weights, second: Weights, out: &mut [u32])
     ensures { out.new ≡ table_of (weights_of first) (weights_of second) ++ drop 320 out.old }
 {
     for r in 0..64 {
-        put_row(out, 5 * usize::from(r), row_of(first, second, r));
+        put_row(out, 5 * r as usize, row_of(first, second, r));
     }
 }
 

@@ -64,7 +64,7 @@ impl<'a> Text<'a> {
         ensures upper_bound { self.new.len ≤ self.old.len + 10 }
         ensures upper_bound_2 { n < 10000 → self.new.len ≤ self.old.len + 4 }
     {
-        self.put_number(u64::from(n));
+        self.put_number(n as u64);
     }
 
     // A space and a number.
