@@ -11,7 +11,7 @@ ghost use Rattle.inspect.specs.Checks.{Domain};
 ghost use Rattle.inspect.specs.Target.{target};
 ghost use Rattle.nearest_laws.specs.Nearest.{found};
 ghost use Rattle.nearest.specs.Outcome.{found_of};
-ghost use Rattle.relay_laws.specs.Plays.{plays_of, total_of};
+ghost use Rattle.relay_laws.specs.Plays.{chart_count, plays_of, total_of};
 ghost use Rattle.relay_laws.specs.Pool.{all_missing};
 ghost use Rattle.relay_laws.specs.Relay.{remains, relay_answer, IsRelay};
 
@@ -43,8 +43,9 @@ impl Pool {
         }
     }
 
-    // Of all charts.
+    // Of at most eight charts.
     fn of(plays: Plays) -> Pool
+        requires { chart_count plays.numbers.now ≤ 8 }
         ensures total_value { (result.total.0 ≡ hits (map (total_of plays.entry.classic) (plays_of plays.entry.numbers.now))) × (result.total.0 ≤ most_pooled_hits) }
         ensures remain_value { (result.remain.0 ≡ hits (remains plays.entry.classic (plays_of plays.entry.numbers.now))) × (result.remain.0 ≤ most_pooled_hits) }
     {

@@ -1,7 +1,7 @@
 // The charts of a relay as they are handed over, three numbers each (objects, holds, misses), and the checks that come before its pool.
 #![tactic(auto)]
 
-ghost use Rattle.std.specs.Prelude.{◌≡◌, ◌||◌, ◌<◌, ◌≤◌};
+ghost use Rattle.std.specs.Prelude.{◌≡◌, ◌||◌, ◌<◌};
 ghost use Rattle.score_state.specs.Answer.{status_of, answer_of};
 ghost use Rattle.inspect.specs.Inspect.{acc_of};
 ghost use Rattle.inspect.specs.Checks.{Domain};
@@ -12,13 +12,39 @@ use inspect::{Accuracy, Chart, Query};
 use refusals::Refusal;
 use score_state::CAP;
 
-// A relay's charts, three numbers each, as the checks leave them: at most eight charts, none of them over.
+// The chart at place k, played to its end, as a query: its misses are given, and no other count.
+pub fn play_query(classic: bool, plays: &[u32], k: usize) -> Query
+    requires { k < chart_count plays.now }
+    ensures { result ≡ play_query classic (play_at plays.now k) }
+{
+    let at = 3 * k;
+    Query {
+        chart: Chart {
+            n_objects: plays[at],
+            n_hold_notes: plays[at + 1],
+        },
+        method: 3,
+        priority: 0,
+        classic,
+        presence: inspect::MISSES,
+        n320: 0,
+        n300: 0,
+        n200: 0,
+        n100: 0,
+        n50: 0,
+        misses: plays[at + 2],
+        passed: 0,
+        holds: None,
+        acc: Accuracy::Absent,
+    }
+}
+
+// A relay's charts, three numbers each, none of them over.
 #[derive(Clone, Copy)]
 pub struct Plays<'a> {
     pub classic: bool,
     pub numbers: &'a [u32],
     ghost playable: { Playable numbers.now },
-    ghost few: { chart_count numbers.now ≤ 8 },
 }
 
 impl Plays<'_> {
@@ -29,32 +55,13 @@ impl Plays<'_> {
         self.numbers.len() / 3
     }
 
-    // The chart at place k, played to its end, as a query: its misses are given, and no other count.
+    // The chart at place k as a query.
     pub fn query(self, k: usize) -> Query
         requires { k < chart_count self.numbers.now }
         ensures query { result ≡ play_query self.entry.classic (play_at self.entry.numbers.now k) }
         ensures domain { Domain result }
     {
-        let at = 3 * k;
-        Query {
-            chart: Chart {
-                n_objects: self.numbers[at],
-                n_hold_notes: self.numbers[at + 1],
-            },
-            method: 3,
-            priority: 0,
-            classic: self.classic,
-            presence: inspect::MISSES,
-            n320: 0,
-            n300: 0,
-            n200: 0,
-            n100: 0,
-            n50: 0,
-            misses: self.numbers[at + 2],
-            passed: 0,
-            holds: None,
-            acc: Accuracy::Absent,
-        }
+        play_query(self.classic, self.numbers, k)
     }
 }
 

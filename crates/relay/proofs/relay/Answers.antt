@@ -28,7 +28,10 @@ returns-in_default-clause-equation c =
     without_acc x.classic (acc_of x.acc) x.plays.now x.out.now (sym c.in_ok-check.ensures) (ap acc_of c.in_default.is)
 
 pub invariant_of-plays : goal.invariant_of-plays
-invariant_of-plays c = let p = cleared c.in_ok-check.ensures in record { playable = p.playable; few = p.few }
+invariant_of-plays c = record { playable = (cleared c.in_ok-check.ensures).playable }
+
+pub of-requires : goal.of-requires
+of-requires c = (cleared c.in_ok-check.ensures).few
 
 pub invariant_of-split : goal.invariant_of-split
 invariant_of-split c = record { in_range = in_range _ (rw (ap acc_of c.in-Given.is) at (cleared c.in_ok-check.ensures).inside) }

@@ -13,7 +13,7 @@ loop-k-init c = (omega arith, rw sub-zero (omega arith), rw sub-zero (omega arit
 
 pub with_chart-pool-requires-clause-most_hits_bound : goal.with_chart-pool-requires-clause-most_hits_bound
 with_chart-pool-requires-clause-most_hits_bound c =
-    let few = c.args.plays.few in
+    let few = c.requires in
     let l = c.loop-k in (omega (arith, l.invariant.3, few), omega (arith, l.invariant.4, few))
 
 pub loop-k-preserved : goal.loop-k-preserved
@@ -43,6 +43,6 @@ returns c =
     let t = rw e at l.invariant.1 in
     let r = rw e at l.invariant.2 in
     record {
-      total_value = (omega (arith, t, sum_end (total_of x.classic) s (chart_count s)), omega (arith, l.invariant.3, x.few));
-      remain_value = (omega (arith, r, sum_end (remain_of x.classic) s (chart_count s)), omega (arith, l.invariant.4, x.few));
+      total_value = (omega (arith, t, sum_end (total_of x.classic) s (chart_count s)), omega (arith, l.invariant.3, c.requires));
+      remain_value = (omega (arith, r, sum_end (remain_of x.classic) s (chart_count s)), omega (arith, l.invariant.4, c.requires));
     }
