@@ -4,7 +4,8 @@
 ghost use Rattle.std.specs.Prelude.{◌≡◌, ◌+◌, ◌*◌, ◌<◌, ◌≤◌, length};
 ghost use Rattle.words.specs.Lines.{part};
 ghost use Rattle.typed_line.specs.Keywords.{kind_at, kind_of, method_of, option_at, option_of};
-ghost use Rattle.typed_line.specs.Line.{span, fresh, noted, told, begun, awaits, stores, opens, field_of, named, names, value_for, slot, after, fills, judged, takes, closed, read_of, line_of};
+ghost use Rattle.typed_line.specs.Line.{span, fresh, noted, told, begun, awaits, stores, opens, field_of, named, names, value_for, slot, after, fills, judged, takes, takes_all, closed, line_of};
+ghost use Rattle.words.specs.Walk.{words_left};
 
 use words::{Fault, Words};
 
@@ -193,50 +194,43 @@ impl Line {
         }
     }
 
-    fn note(self, word: Span) -> Line
-        ensures { result ≡ noted self word }
+    fn note(&mut self, word: Span)
+        ensures { self.new ≡ noted self.old word }
     {
-        Line { word, ..self }
+        self.word = word;
     }
 
-    fn tell(self, fault: Fault) -> Line
-        ensures { result ≡ told self fault }
+    fn tell(&mut self, fault: Fault)
+        ensures { self.new ≡ told self.old fault }
     {
-        Line {
-            fault: Some(fault),
-            ..self
-        }
+        self.fault = Some(fault);
     }
 
-    fn begin(self, kind: Kind, want: Want) -> Line
-        ensures { result ≡ begun self kind want }
+    fn begin(&mut self, kind: Kind, want: Want)
+        ensures { self.new ≡ begun self.old kind want }
     {
-        Line {
-            first: self.word,
-            kind: Some(kind),
-            want,
-            ..self
-        }
+        self.first = self.word;
+        self.kind = Some(kind);
+        self.want = want;
     }
 
-    fn await_next(self, want: Want) -> Line
-        ensures { result ≡ awaits self want }
+    fn await_next(&mut self, want: Want)
+        ensures { self.new ≡ awaits self.old want }
     {
-        Line { want, ..self }
+        self.want = want;
     }
 
-    fn store(mut self, f: usize, n: u64, want: Want) -> Line
+    fn store(&mut self, f: usize, n: u64, want: Want)
         requires { f < 13 }
-        ensures { result ≡ stores self f n want }
+        ensures { self.new ≡ stores self.old f n want }
     {
         self.fields[f] = Some(n);
         self.want = want;
-        self
     }
 
     // A line's first word.
-    fn open(self, kind: Option<Kind>) -> Line
-        ensures { result ≡ opens self kind }
+    fn open(&mut self, kind: Option<Kind>)
+        ensures { self.new ≡ opens self.old kind }
     {
         match kind {
             None => self.tell(Fault::BeginsNoLine),
@@ -246,8 +240,8 @@ impl Line {
     }
 
     // An option that is not given yet.
-    fn enter(self, option: PlayOption) -> Line
-        ensures { result ≡ named self option }
+    fn enter(&mut self, option: PlayOption)
+        ensures { self.new ≡ named self.old option }
     {
         match option {
             PlayOption::Valued(f) => self.await_next(Want::Value(f)),
@@ -259,8 +253,8 @@ impl Line {
 
     // An option's name.
     #[tactic(auto, unfolding(crate::specs::Line::names))]
-    fn name(self, option: Option<PlayOption>) -> Line
-        ensures { result ≡ names self option }
+    fn name(&mut self, option: Option<PlayOption>)
+        ensures { self.new ≡ names self.old option }
     {
         let Some(option) = option else {
             return self.tell(Fault::NoOption);
@@ -272,8 +266,8 @@ impl Line {
     }
 
     #[tactic(auto, unfolding(crate::specs::Line::fills))]
-    fn fill(self, f: usize, v: Result<u64, Fault>) -> Line
-        ensures { result ≡ fills self f v }
+    fn fill(&mut self, f: usize, v: Result<u64, Fault>)
+        ensures { self.new ≡ fills self.old f v }
     {
         match v {
             Ok(n) => self.store(slot_of(f), n, want_after(self.kind, f)),
@@ -282,8 +276,8 @@ impl Line {
     }
 
     #[tactic(auto, unfolding(crate::specs::Line::judged, crate::specs::Line::judged_as))]
-    fn judge(self, w: &[u8]) -> Line
-        ensures { result ≡ judged self w.now }
+    fn judge(&mut self, w: &[u8])
+        ensures { self.new ≡ judged self.old w.now }
     {
         match self.want {
             Want::FirstWord => self.open(kind_of(w)),
@@ -295,48 +289,51 @@ impl Line {
 
     // A word more, which starts at a place of the text.
     #[tactic(auto, unfolding(crate::specs::Line::takes))]
-    fn take_word(self, at: usize, w: &[u8]) -> Line
-        ensures { result ≡ takes self (part at w.now) }
+    fn take_word(&mut self, at: usize, w: &[u8])
+        ensures { self.new ≡ takes self.old (part at w.now) }
     {
-        if self.fault.is_some() {
-            return self;
+        if self.fault.is_none() {
+            self.note(Span { at, size: w.len() });
+            self.judge(w);
         }
-        self.note(Span { at, size: w.len() }).judge(w)
     }
 
     // The end of the line.
-    fn close(self) -> Line
-        ensures { result ≡ closed self }
+    fn close(&mut self)
+        ensures { self.new ≡ closed self.old }
     {
-        if self.fault.is_some() {
-            return self;
+        if self.fault.is_none() {
+            if let Want::Value(_) = self.want {
+                self.tell(Fault::ValueMissing);
+            }
         }
-        match self.want {
-            Want::Value(_) => self.tell(Fault::ValueMissing),
-            _ => self,
+    }
+
+    // The words that are left of a line, and its end.
+    #[tactic(auto, unfolding(crate::specs::Line::takes_all))]
+    fn take_words(&mut self, words: Words<'_>)
+        ensures { self.new ≡ closed (takes_all self.old (words_left words.entry)) }
+    {
+        for (at, w) in words {
+            self.take_word(at, w);
         }
+        self.close();
     }
 }
 
-// All words of a line that starts at a place of the text.
-#[tactic(auto, unfolding(crate::specs::Line::takes_all, crate::specs::Line::read_of))]
-fn read_words(s: &[u8], start: usize) -> Line
-    requires { start + length s.now ≤ 18446744073709551615 }
-    ensures { result ≡ read_of start s.now }
-{
-    let mut l = Line::new();
-    for (at, w) in Words::new(start, s) {
-        l = l.take_word(at, w);
-    }
-    l.close()
-}
-
-// A line that starts at a place of the text, the CR of its end with it.
-#[tactic(auto, unfolding(crate::specs::Line::line_of))]
+// A line that starts at a place of the text, the CR of its end with it. One without a word is answered at once: nothing of it is copied.
+#[tactic(auto, unfolding(crate::specs::Line::line_of, crate::specs::Line::read_of, crate::specs::Line::takes_all))]
 pub fn read_line(s: &[u8], start: usize) -> Line
     requires { start + length s.now ≤ 18446744073709551615 }
     ensures { result ≡ line_of (part start s.now) }
 {
     let n = words::size_unended(s);
-    read_words(&s[0..n], start)
+    let mut words = Words::new(start, &s[0..n]);
+    let Some((at, w)) = words.next() else {
+        return Line::new();
+    };
+    let mut l = Line::new();
+    l.take_word(at, w);
+    l.take_words(words);
+    l
 }
