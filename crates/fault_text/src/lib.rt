@@ -42,28 +42,29 @@ fn put_word(text: &mut Text<'_>, word: &[u8])
     if 40 < word.len() {
         put_shown(text, &word[0..40]);
         text.put_bytes(b"..");
-    } else {
-        put_shown(text, word);
+        return;
     }
+    put_shown(text, word);
 }
 
 // What stands behind the word.
 #[tactic(auto, unfolding(crate::specs::FaultText::phrase_of, crate::specs::FaultText::later_phrase, crate::specs::FaultText::begins_no_line, crate::specs::FaultText::one_too_many, crate::specs::FaultText::no_option, crate::specs::FaultText::given_twice, crate::specs::FaultText::no_whole_number, crate::specs::FaultText::too_large, crate::specs::FaultText::no_percentage, crate::specs::FaultText::not_hex, crate::specs::FaultText::no_method, crate::specs::FaultText::one_line_too_many))]
-fn phrase_of(number: u32) -> &'static [u8]
-    ensures value { result.now ≡ phrase_of number }
-    ensures upper_bound { length result.now ≤ 26 }
+fn put_phrase(text: &mut Text<'_>, number: u32)
+    requires { HasRoom text.old 26 }
+    ensures gained { Gained text.old text.new (phrase_of number) }
+    ensures upper_bound { text.new.len ≤ text.old.len + 26 }
 {
     match number {
-        1 => b" begins no line",
-        2 => b" is one too many",
-        3 => b" is no option",
-        4 => b" is given twice",
-        6 => b" is no whole number",
-        7 | 11 => b" is too large",
-        8 => b" is no percentage",
-        9 => b" is not sixteen hex digits",
-        10 => b" is no method",
-        _ => b" is one line too many",
+        1 => text.put_bytes(b" begins no line"),
+        2 => text.put_bytes(b" is one too many"),
+        3 => text.put_bytes(b" is no option"),
+        4 => text.put_bytes(b" is given twice"),
+        6 => text.put_bytes(b" is no whole number"),
+        7 | 11 => text.put_bytes(b" is too large"),
+        8 => text.put_bytes(b" is no percentage"),
+        9 => text.put_bytes(b" is not sixteen hex digits"),
+        10 => text.put_bytes(b" is no method"),
+        _ => text.put_bytes(b" is one line too many"),
     }
 }
 
@@ -77,7 +78,7 @@ fn put_sentence(text: &mut Text<'_>, number: u32, word: &[u8])
         put_word(text, word);
     } else {
         put_word(text, word);
-        text.put_bytes(phrase_of(number));
+        put_phrase(text, number);
     }
 }
 

@@ -10,4 +10,4 @@ returns-then-number-eq5-clause-gained c = rw (eq-eqb c.args.number 5 c.if-number
 
 pub returns-else-number-eq5-clause-gained : goal.returns-else-number-eq5-clause-gained
 unfolding sentence_of
-returns-else-number-eq5-clause-gained c = rw (ne_eqb c.args.number 5 c.if-number-eq5.false, ← c.phrase_of.ensures.value) (followed c.put_word-else-number-eq5.ensures.gained c.put_bytes-else-number-eq5.ensures)
+returns-else-number-eq5-clause-gained c = rw (ne_eqb c.args.number 5 c.if-number-eq5.false) (followed c.put_word-else-number-eq5.ensures.gained c.put_phrase.ensures.gained)

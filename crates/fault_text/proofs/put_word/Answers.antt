@@ -14,8 +14,8 @@ returns-then-word-gt40 c =
     let k : length (take 40 w) ≤ 40 = simp length-take (omega arith) in
     record { gained = rw (lt-ltb 40 (length w) (omega arith)) (followed c.put_shown.ensures.gained c.put_bytes.ensures); upper_bound = omega arith }
 
-pub returns-else-word-gt40 : goal.returns-else-word-gt40
+pub returns : goal.returns
 unfolding shown_word
-returns-else-word-gt40 c =
+returns c =
     let w = c.args.word.now in
-    record { gained = rw (le-ltb 40 (length w) (omega arith)) c.put_shown-else-word-gt40.ensures.gained; upper_bound = omega arith }
+    record { gained = rw (le-ltb 40 (length w) (omega arith)) c.put_shown-2.ensures.gained; upper_bound = omega arith }
