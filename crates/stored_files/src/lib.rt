@@ -20,7 +20,7 @@ impl<F: Read> Read for Stored<F> {
 }
 
 // Prints the file's name and opens it.
-fn opened<R: Files, O: Write>(rt: &R, output: &mut O, name: &[u8]) -> Stored<R::File> {
+pub fn opened<R: Files, O: Write>(rt: &R, output: &mut O, name: &[u8]) -> Stored<R::File> {
     let _ = output.write_all(name);
     let _ = output.write_all(b"\n");
     let Ok(path) = str::from_utf8(name) else {
