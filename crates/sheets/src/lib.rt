@@ -110,7 +110,8 @@ pub fn work_sheet(sheet: &[u8], out: &mut [u8]) -> Result<Worked, Refusal>
     ensures demand3 { WhenWorked result (Demand3 sheet.now out.new) }
     ensures rising { WhenWorked result (RisingRows sheet.now out.new) }
 {
-    check(sheet, out.len())?;
+    let checked = check(sheet, out.len());
+    checked?;
     let queries = sheet_reader::work_accepted(sheet, out);
     let worked = Worked {
         queries: queries as u32,
