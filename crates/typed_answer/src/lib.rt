@@ -42,6 +42,9 @@ pub fn table_or_fault(
     ensures { Makes (table_answer text.now) result table.new message.new }
 {
     let mut sheet = [0u8; SHEET_ROOM];
-    let n = sheet_or_fault(text, &mut sheet, message)?;
-    Ok(table::print_sheet(&sheet[..n], table))
+    // No `?`: the edit message_printed plants in the answer of a fault (docs/LOOK-BACK.md).
+    match sheet_or_fault(text, &mut sheet, message) {
+        Ok(n) => Ok(table::print_sheet(&sheet[..n], table)),
+        Err(told) => Err(told),
+    }
 }
