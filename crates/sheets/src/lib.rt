@@ -110,6 +110,7 @@ pub fn work_sheet(sheet: &[u8], out: &mut [u8]) -> Result<Worked, Refusal>
     ensures demand3 { WhenWorked result (Demand3 sheet.now out.new) }
     ensures rising { WhenWorked result (RisingRows sheet.now out.new) }
 {
+    // Named, so that the edit stopped_sheet_worked leaves its goals their names.
     let checked = check(sheet, out.len());
     checked?;
     let queries = sheet_reader::work_accepted(sheet, out);
